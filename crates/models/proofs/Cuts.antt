@@ -52,6 +52,12 @@ module _ (m : Meaning) (law : Partition m) where
   pub holds-bound : (q i : ℕ) → Holds m q i → q < 2 ^ m .bits
   holds-bound q i h = omega (arith, h .below, start-bound (suc i) (omega (arith, h .within)))
 
+  -- a row's interval, from where it starts and where it ends
+  pub interval-between : (i s e : ℕ) → i ≤ m .span → s ≡ m .start i → e ≡ m .start (suc i) → Interval m i s (e - s)
+  interval-between i s e h from to =
+      let up : m .start i < m .start (suc i) = law .rises i h in
+      record { start = from; end = omega arith; some = omega arith }
+
   -- with two rows at least, neither a start nor a length takes all of 2 ^ bits, so both fit a type of that many bits
   pub start-fits : (i s l : ℕ) → i ≤ m .span → Interval m i s l → s < 2 ^ m .bits
   start-fits i s l h at = omega (arith, at .end, at .some, start-bound (suc i) (omega arith))

@@ -1,0 +1,3 @@
+pub mod OneRow
+pub mod Extents
+pub mod Starts

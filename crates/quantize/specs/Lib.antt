@@ -1,0 +1,3 @@
+pub mod Quantized
+pub mod Brackets
+pub mod Extents

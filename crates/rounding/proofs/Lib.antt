@@ -1,0 +1,10 @@
+pub mod Literals
+pub mod Order
+pub mod Rounded
+pub mod Sums
+pub mod Products
+pub mod Quotients
+pub mod Laws
+pub mod Wholes
+pub mod Weights
+pub mod Ranges

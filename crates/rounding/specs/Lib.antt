@@ -1,0 +1,9 @@
+pub mod Fractions
+pub mod Order
+pub mod Rounded
+pub mod Sums
+pub mod Products
+pub mod Quotients
+pub mod Wholes
+pub mod Weights
+pub mod Ranges
