@@ -1,5 +1,6 @@
 // Entropy models: what one means, and the calls that answer by it.
 ghost use mathlib.Core.Path.{_≡_};
+ghost use Prim.Native.Nat.{_≤_};
 ghost use lib.IntN.{pos, _+ℤ_};
 ghost use Rattle.models.specs.Meaning.{Meaning, Partition};
 ghost use Rattle.models.specs.Answers.{Encodes, Lists, Searches};
@@ -14,7 +15,10 @@ pub trait EntropyModel {
 
     ghost meaning: { Self → Meaning };
 
+    // The starts cut [0, 2^P).
     law cuts: { (m : Self) → Partition (meaning m) };
+    // P is within the probability type's width.
+    law fits: { (m : Self) → meaning m .bits ≤ Probability·BitArray .width };
 }
 
 pub trait EncoderModel: EntropyModel {
