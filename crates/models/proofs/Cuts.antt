@@ -26,6 +26,14 @@ module _ (m : Meaning) (law : Partition m) where
   pub start-bound : (i : ℕ) → i ≤ suc (m .span) → m .start i ≤ 2 ^ m .bits
   start-bound i h = subst (λ n. m .start i ≤ n) (law .last) (start-le i (suc (m .span)) h (omega arith))
 
+  -- every interval takes one quantile at least, so there are no more rows than quantiles
+  start-above : (i : ℕ) → i ≤ suc (m .span) → i ≤ m .start i
+  start-above zero h = omega arith
+  start-above (suc i) h = omega (arith, start-above i (omega arith), law .rises i (omega arith))
+
+  pub span-fits : m .span < 2 ^ m .bits
+  span-fits = omega (arith, law .last, start-above (suc (m .span)) (omega arith))
+
   -- a lower interval ends before a higher one starts
   apart : (q i j : ℕ) → Holds m q i → Holds m q j → i < j → ⊥
   apart q i j a b h = omega (arith, start-le (suc i) j h (omega (arith, b .within)))

@@ -1,7 +1,7 @@
 -- What the calls of a model answer, by its meaning m. A symbol type says by `whole` which whole number a symbol is,
 -- a probability type by `value` which number it holds. Assumes nothing.
 use mathlib.Core.Path.{_≡_}
-use Prim.Native.Nat.{ℕ, _^_, _<_, _≤_}
+use Prim.Native.Nat.{ℕ, suc, _^_, _<_, _≤_}
 use lib.IntN.{ℤ}
 use lib.Signed.{_≤ℤ_}
 use Rattle.std.specs.declared.option.Option.{Option}
@@ -26,6 +26,11 @@ pub record IsRow {S P : Type 0} (whole : S → ℤ) (value : P → ℕ) (m : Mea
 abbrev pub Lists : {S P : Type 0} → (S → ℤ) → (P → ℕ) → Meaning → ℕ → Option (S × P × P) → Type 0
 Lists whole value m i None = m .span < i
 Lists whole value m i (Some r) = IsRow whole value m i r
+
+-- Where row i starts, or where the last one ends at one past it; nothing exactly beyond.
+abbrev pub Starts : Meaning → ℕ → Option ℕ → Type 0
+Starts m i None = suc (m .span) < i
+Starts m i (Some s) = (i ≤ suc (m .span)) × (s ≡ m .start i)
 
 -- The triple is the one row whose interval holds q.
 pub record Found {S P : Type 0} (whole : S → ℤ) (value : P → ℕ) (m : Meaning) (q : ℕ) (r : S × P × P) : Type 0 where

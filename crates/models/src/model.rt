@@ -3,7 +3,7 @@ ghost use mathlib.Core.Path.{_≡_};
 ghost use Prim.Native.Nat.{_≤_};
 ghost use lib.IntN.{pos, _+ℤ_};
 ghost use Rattle.models.specs.Meaning.{Meaning, Partition};
-ghost use Rattle.models.specs.Answers.{Encodes, Lists, Searches};
+ghost use Rattle.models.specs.Answers.{Encodes, Lists, Searches, Starts};
 use crate::bits::BitArray;
 use crate::fault::ModelFault;
 use crate::symbol::Symbol;
@@ -55,4 +55,8 @@ pub trait IterableEntropyModel: EntropyModel {
         index: usize,
     ) -> Option<(Self::Symbol, Self::Probability, Self::Probability)>
         ensures { λ r. ⌜ Lists (Symbol·Symbol .whole) (Probability·BitArray .value) (Self·EntropyModel .meaning (now (self .entry))) index r ⌝ };
+
+    // Where the row with this index starts, or, one past the last, where that ends. `None` beyond.
+    fn left_cumulative(&self, index: usize) -> Option<u64>
+        ensures { λ r. ⌜ Starts (Self·EntropyModel .meaning (now (self .entry))) index r ⌝ };
 }

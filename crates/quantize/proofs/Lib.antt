@@ -1,3 +1,4 @@
-pub mod OneRow
+pub mod Agreement
 pub mod Extents
+pub mod OneRow
 pub mod Starts

@@ -186,4 +186,13 @@ pub impl<S: Support, D: Distribution> IterableEntropyModel for LeakilyQuantizedD
         let (left, probability) = self.row(row);
         Some((self.quantizer.symbol(row), left, probability))
     }
+
+    fn left_cumulative(&self, index: usize) -> Option<u64> {
+        let extent = self.quantizer.support.extent();
+        let row = index as u64;
+        if row > extent.span() + 1 {
+            return None;
+        }
+        Some(extent.start(&self.inner, row))
+    }
 }

@@ -129,4 +129,16 @@ pub impl<R: UniformRange> IterableEntropyModel for UniformModel<R> as UniformIte
         }
         Some(self.row(index as u64))
     }
+
+    fn left_cumulative(&self, index: usize) -> Option<u64> {
+        let row = index as u64;
+        let range = self.range.range();
+        if row > range {
+            None
+        } else if row == range {
+            Some(self.quantiles())
+        } else {
+            Some(row * self.range.length())
+        }
+    }
 }
