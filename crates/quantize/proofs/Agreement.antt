@@ -24,15 +24,15 @@ module _ (low : ℤ) (span bits : ℕ) (h h' : Height) (law : Lawful h)
   starts-agree zero = refl
   starts-agree (suc i) =
       elim (cases-lt i span) [
-        inl more ↦
+        | inl more ↦
             let inside = le-leb (suc i) span more in
             cond-true (leb (suc i) span) _ _ inside
             ∙ ap (λ n. n + suc i)
-              (weighed-agrees (freeWeight bits span) (omega (arith, pow-mono narrow)) _ _
-                (height-there h law _ (half-in-reach (low +ℤ pos (suc i)) (omega (arith, ints)) (omega (arith, ints))))
-                (agree (suc i) (omega arith) more))
+            (weighed-agrees (freeWeight bits span) (omega (arith, pow-mono narrow)) _ _
+            (height-there h law _ (half-in-reach (low +ℤ pos (suc i)) (omega (arith, ints)) (omega (arith, ints))))
+            (agree (suc i) (omega arith) more))
             ∙ sym (cond-true (leb (suc i) span) _ _ inside)
-      | inr end ↦
+        | inr end ↦
             let past = lt-leb (suc i) span (omega arith) in
             cond-false (leb (suc i) span) _ _ past ∙ sym (cond-false (leb (suc i) span) _ _ past)
       ]

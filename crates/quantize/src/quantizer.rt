@@ -22,7 +22,7 @@ pub struct LeakyQuantizer<S> {
     support: S,
 }
 
-#[derive(Clone, Copy)]
+#[derive(Drop)]
 pub struct LeakilyQuantizedDistribution<S, D> {
     quantizer: LeakyQuantizer<S>,
     inner: D,

@@ -1,0 +1,8 @@
+pub mod Rows
+pub mod Events
+pub mod Answered
+pub mod Steps
+pub mod Pages
+pub mod Logs
+pub mod Promises
+pub mod Openings
