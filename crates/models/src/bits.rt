@@ -11,6 +11,8 @@ pub trait BitArray: Copy {
     ghost width: { ℕ };
 
     law narrow: { width ≤ 32 };
+    // a probability is its number, and nothing more
+    law exact: { (x y : Self) → value x ≡ value y → x ≡ y };
 
     fn bits() -> u32
         ensures { λ r. ⌜ r ≡ width ⌝ };
