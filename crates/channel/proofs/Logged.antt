@@ -9,7 +9,7 @@ use Rattle.channel.specs.Events.{Event, Untuned}
 use Rattle.channel.specs.Logs.{eventOf, untunable}
 use Rattle.channel.specs.Steps.{State, Step, Run}
 use Rattle.channel.specs.declared.replay.Entry.{Entry}
-use Rattle.channel.specs.declared.replay.Entry.the-variants.{Encoded, Searched, Stepped, Filled, Rewound, Retuned}
+use Rattle.channel.specs.declared.replay.Entry.the-variants.{Encoded, Searched, Likely, Tabled, Measured, Stepped, Filled, Rewound, Retuned}
 use Rattle.channel.specs.declared.tune.Never.{Never}
 
 run-more : (s t u : State) (es : List Event) (e : Event) → Run s es t → Step t e u → Run s (es ++ e ∷ []) u
@@ -37,6 +37,9 @@ pub never-tuned :
 never-tuned whole value [] = tt
 never-tuned whole value (Encoded s a ∷ log) = (refl, never-tuned whole value log)
 never-tuned whole value (Searched q a ∷ log) = (refl, never-tuned whole value log)
+never-tuned whole value (Likely s r ∷ log) = (refl, never-tuned whole value log)
+never-tuned whole value (Tabled i a ∷ log) = (refl, never-tuned whole value log)
+never-tuned whole value (Measured r ∷ log) = (refl, never-tuned whole value log)
 never-tuned whole value (Stepped a ∷ log) = (refl, never-tuned whole value log)
 never-tuned whole value (Filled slots page ∷ log) = (refl, never-tuned whole value log)
 never-tuned whole value (Rewound ∷ log) = (refl, never-tuned whole value log)

@@ -1,7 +1,8 @@
--- The calls of a channel with their answers, in whole numbers and heights, and what a list of them hands out. Assumes nothing.
+-- The calls of a channel with their answers, in whole numbers, floats and heights, and what a list of them hands out. Assumes nothing.
 use mathlib.Core.Path.{_≡_}
 use Prim.Native.Nat.{ℕ, zero, suc, min}
 use mathlib.Core.List.{List, [], _∷_, _++_}
+use lib.Ieee.{Float}
 use lib.IntN.{ℤ, pos}
 use lib.ListN.{length, getD}
 use Rattle.std.specs.Options.{valueOr}
@@ -37,6 +38,14 @@ pub data Asked : Type 0 where
   encoded : ℤ → Option (ℕ × ℕ) → Asked
   -- search at a quantile
   searched : ℕ → Result Row ModelFault → Asked
+  -- the probability of a whole number
+  likely : ℤ → Float → Asked
+  -- a row by its index, its start and length as shares of 1
+  tabled : ℕ → Option (ℤ × Float × Float) → Asked
+  -- the entropy by a logarithm
+  measured : (ℕ → ℕ) → Float → Asked
+  -- the cross entropy by a logarithm, with a list of weights
+  compared : (ℕ → ℕ) → List Float → Float → Asked
 
 pub data Event : Type 0 where
   asked : Asked → Event

@@ -7,11 +7,13 @@ use lib.ListN.{length, getD}
 use lib.Signed.{_≤ℤ_}
 use Rattle.std.specs.declared.option.Option.{Option}
 use Rattle.std.specs.declared.option.Option.the-variants.{Some, None}
+use Rattle.measures.specs.Entropies.{Entropy, CrossEntropy}
+use Rattle.measures.specs.Shares.{Likely, ListsShares}
 use Rattle.models.specs.Answers.{Encodes, IsRow, Lists, Searches}
 use Rattle.models.specs.Heights.{Height, Lawful}
 use Rattle.models.specs.Meaning.{Meaning}
 use Rattle.quantize.specs.Quantized.{quantized}
-use Rattle.channel.specs.Events.{Buffers, room, rowAt, Asked, encoded, searched, Event, asked, stepped, filled, rewound, retuned}
+use Rattle.channel.specs.Events.{Buffers, room, rowAt, Asked, encoded, searched, likely, tabled, measured, compared, Event, asked, stepped, filled, rewound, retuned}
 use Rattle.channel.specs.Rows.{Row}
 
 -- A channel as it stands: what its model means, and how many rows its walk has handed out. It knows nothing of its make.
@@ -57,6 +59,10 @@ pub record Retuned (m : Meaning) (h : Height) (m' : Meaning) : Type 0 where
 abbrev pub Truthful : Meaning → Asked → Type 0
 Truthful m (encoded z a) = Encodes itself m z a
 Truthful m (searched q a) = Searches itself itself m q a
+Truthful m (likely z r) = Likely m z r
+Truthful m (tabled i a) = ListsShares itself m i a
+Truthful m (measured log r) = Entropy log m r
+Truthful m (compared log weights r) = CrossEntropy log m weights r
 
 -- One call, from a state to the next. To ask changes nothing.
 abbrev pub Step : State → Event → State → Type 0

@@ -17,6 +17,8 @@ use crate::tune::QuantizedTunable;
 use crate::tune::Tunable;
 use crate::tune::UniformTunable;
 use crate::walk::Channel;
+use measures::logarithm::Fine;
+use measures::logarithm::FineLogarithm;
 use models::distribution::Distribution;
 use models::distribution::Inverse;
 use models::fault::ModelFault;
@@ -63,6 +65,10 @@ pub struct Page<S, P> {
 pub enum Call<S, P, T> {
     Encode(S),
     Search(P),
+    Probability(S),
+    TableRow(usize),
+    // by the fine logarithm
+    Entropy,
     Next,
     Fill(Slots<S, P>),
     Rewind,
@@ -74,6 +80,9 @@ pub enum Call<S, P, T> {
 pub enum Entry<S, P, T> {
     Encoded(S, Option<(P, P)>),
     Searched(P, Result<(S, P, P), ModelFault>),
+    Likely(S, f64),
+    Tabled(usize, Option<(S, f64, f64)>),
+    Measured(f64),
     Stepped(Option<(S, P, P)>),
     Filled(Slots<S, P>, Page<S, P>),
     Rewound,
@@ -126,6 +135,15 @@ where
     match call {
         Call::Encode(symbol) => Ok(Entry::Encoded(*symbol, channel.encode(*symbol))),
         Call::Search(quantile) => Ok(Entry::Searched(*quantile, channel.search(*quantile))),
+        Call::Probability(symbol) => Ok(Entry::Likely(
+            *symbol,
+            channel.floating_point_probability(*symbol),
+        )),
+        Call::TableRow(index) => Ok(Entry::Tabled(
+            *index,
+            channel.floating_point_symbol_table(*index),
+        )),
+        Call::Entropy => Ok(Entry::Measured(channel.entropy_base2::<Fine>())),
         Call::Next => Ok(Entry::Stepped(channel.next())),
         Call::Fill(slots) => Ok(Entry::Filled(*slots, fill_page(heap, channel, *slots)?)),
         Call::Rewind => {

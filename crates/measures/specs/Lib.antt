@@ -1,0 +1,3 @@
+pub mod Shares
+pub mod Logarithms
+pub mod Entropies

@@ -1,0 +1,5 @@
+pub mod Appending
+pub mod Described
+pub mod Figures
+pub mod Spelling
+pub mod Tables

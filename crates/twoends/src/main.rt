@@ -1,0 +1,142 @@
+// The winch end and the cab end of one line, of different makes, run through replay: readings go to intervals, numbers from the
+// intervals come back as readings, the tables are walked and filled, and one end is retuned.
+use channel::replay::Call;
+use channel::replay::Entry;
+use channel::replay::Slots;
+use channel::replay::replay;
+use channel::replay::replay_uniform;
+use channel::tune::Never;
+use distributions::fault::DistributionFault;
+use distributions::peak::Peak;
+use distributions::peak::PeakDistribution;
+use distributions::peak::PeakInverse;
+use models::bits::U16BitArray;
+use models::bits::U32BitArray;
+use models::fault::ModelFault;
+use models::symbol::I16Symbol;
+use models::symbol::I32Symbol;
+use models::symbol::U16Symbol;
+use models::symbol::UsizeSymbol;
+use quantize::quantizer::LeakyQuantizer;
+use quantize::support::I16U32;
+use quantize::support::I16U32Support;
+use quantize::support::I32U32;
+use quantize::support::I32U32Support;
+use quantize::support::U16U16;
+use quantize::support::U16U16Support;
+use std::error::AnyError;
+use uniform::model::UniformModel;
+use uniform::range::EvenRange;
+use uniform::range::EvenRange16;
+
+mod show;
+mod stubborn;
+
+use show::show;
+use stubborn::Stubborn;
+use stubborn::StubbornDistribution;
+use stubborn::StubbornInverse;
+
+// A refusal as the program's error.
+fn peak(centre: f64, scale: f64) -> Result<Peak, AnyError> {
+    match Peak::new(centre, scale) {
+        Ok(peak) => Ok(peak),
+        Err(_) => Err("a peak is refused".into()),
+    }
+}
+
+fn main(rt: LibcRuntime) -> Result<(), AnyError> {
+    rt.report(run(&rt))
+}
+
+fn run(rt: &LibcRuntime) -> Result<(), AnyError> {
+    line(rt)?;
+    walk(rt)?;
+    even(rt)
+}
+
+// A line from 0 to full scale. The winch has i16 symbols, the cab i32 ones and an inverse that is of no use.
+fn line(rt: &LibcRuntime) -> Result<(), AnyError> {
+    let heap = rt.alloc();
+    let Ok(winch) = LeakyQuantizer::<I16U32>::new(0, 32767, 24) else {
+        return Err("the winch is refused".into());
+    };
+    let Ok(cab) = LeakyQuantizer::<I32U32>::new(0, 32767, 24) else {
+        return Err("the cab is refused".into());
+    };
+    let peak = peak(12000.5, 350.0)?;
+    let readings = [0i16, 11_650, 12_000, 12_001, 20_000, 32_767];
+    for reading in readings {
+        let (_, sent) = replay(heap, winch, peak, &[Call::Encode(reading)])?;
+        for entry in sent.iter() {
+            show(rt, "winch", entry)?;
+            if let Entry::Encoded(_, Some((start, length))) = entry {
+                // the first number of the interval, and the last
+                let last = start.saturating_add(length.saturating_sub(1));
+                let calls = [Call::Search(*start), Call::Search(last)];
+                let (_, came) = replay(heap, cab, Stubborn { peak }, &calls)?;
+                for entry in came.iter() {
+                    show(rt, "cab", entry)?;
+                }
+            }
+        }
+    }
+    Ok(())
+}
+
+// The table of four symbols: row by row, by pages, past its end, and after a retune.
+fn walk(rt: &LibcRuntime) -> Result<(), AnyError> {
+    let Ok(quantizer) = LeakyQuantizer::<U16U16>::new(0, 3, 5) else {
+        return Err("the table is refused".into());
+    };
+    let page = Slots {
+        symbols: 3,
+        starts: 2,
+        lengths: 4,
+        symbol: 9u16,
+        probability: 99u16,
+    };
+    let calls = [
+        Call::Next,
+        Call::Fill(page),
+        Call::Search(32),
+        Call::Next,
+        Call::Next,
+        Call::Rewind,
+        Call::Fill(page),
+        Call::Retune(peak(2.5, 1.0)?),
+        Call::Encode(4),
+        Call::Probability(1),
+        Call::Probability(4),
+        Call::TableRow(2),
+        Call::TableRow(4),
+        Call::Entropy,
+        Call::Next,
+        Call::Fill(page),
+    ];
+    let (_, log) = replay(rt.alloc(), quantizer, peak(0.5, 1.0)?, &calls)?;
+    for entry in log.iter() {
+        show(rt, "table", entry)?;
+    }
+    Ok(())
+}
+
+// A uniform channel walks by the same text.
+fn even(rt: &LibcRuntime) -> Result<(), AnyError> {
+    let Ok(model) = UniformModel::<EvenRange<16>>::new(16, 3) else {
+        return Err("the uniform model is refused".into());
+    };
+    let calls: [Call<usize, u16, Never>; 6] = [
+        Call::Next,
+        Call::Next,
+        Call::Next,
+        Call::Next,
+        Call::Encode(65_537),
+        Call::Search(65_535),
+    ];
+    let (_, log) = replay_uniform(rt.alloc(), model, &calls)?;
+    for entry in log.iter() {
+        show(rt, "uniform", entry)?;
+    }
+    Ok(())
+}
