@@ -94,7 +94,7 @@ module _ {S P : Type 0} (whole : S → ℤ) (value : P → ℕ) (m : Meaning) (r
         let e = any starts' k b in
         let f = any lengths' k c in
         rw (getD-map whole symbols' k d (pos 0) a, getD-map value starts' k e 0 b, getD-map value lengths' k f 0 c)
-        (as-numbers whole value m (row + k) _ (w .rows k d e f h));
+        (as-numbers whole value m (row + k) (getD symbols' k d, getD starts' k e, getD lengths' k f) (w .rows k d e f h));
     symbols-kept = mapped-kept whole n symbols symbols' symbols-kept;
     starts-kept = mapped-kept value n starts starts' starts-kept;
     lengths-kept = mapped-kept value n lengths lengths' lengths-kept;

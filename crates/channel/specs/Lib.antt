@@ -3,6 +3,3 @@ pub mod Events
 pub mod Answered
 pub mod Steps
 pub mod Pages
-pub mod Logs
-pub mod Promises
-pub mod Openings

@@ -1,7 +1,6 @@
-// Channels: a model and the walk over its table, and what every history of calls keeps.
+// Channels: a model, the walk over its table, and the measures of it.
 pub mod hand_on;
 pub mod measure;
 pub mod page;
-pub mod replay;
 pub mod tune;
 pub mod walk;

@@ -1,15 +1,15 @@
 // The winch end and the cab end of one line, of different makes, run through replay: readings go to intervals, numbers from the
 // intervals come back as readings, the tables are walked and filled, and one end is retuned.
-use channel::replay::Call;
-use channel::replay::Entry;
-use channel::replay::Slots;
-use channel::replay::replay;
-use channel::replay::replay_uniform;
 use channel::tune::Never;
 use distributions::fault::DistributionFault;
 use distributions::peak::Peak;
 use distributions::peak::PeakDistribution;
 use distributions::peak::PeakInverse;
+use histories::replay::Call;
+use histories::replay::Entry;
+use histories::replay::Slots;
+use histories::replay::replay;
+use histories::replay::replay_uniform;
 use models::bits::U16BitArray;
 use models::bits::U32BitArray;
 use models::fault::ModelFault;

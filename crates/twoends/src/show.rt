@@ -1,6 +1,6 @@
 // What a call was and what came, as a line.
-use channel::replay::Entry;
-use channel::replay::Page;
+use histories::replay::Entry;
+use histories::replay::Page;
 use models::bits::BitArray;
 use models::fault::ModelFault;
 use models::symbol::Symbol;

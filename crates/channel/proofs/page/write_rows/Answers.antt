@@ -1,7 +1,8 @@
-use mathlib.Core.Path.{_≡_, ap, _∙_}
+use mathlib.Core.Path.{_≡_, ap, subst, _∙_}
 use Prim.Native.Nat.{_+_}
 use native.Mathlib.Nat.{add-assoc}
 use native.Mathlib.Omega.{arith}
+use Rattle.channel.specs.Pages.{KeptFrom, Written}
 use Rattle.channel.proofs.Pages.{kept-more, written-more}
 use Rattle.channel.proofs.Room.{rows-few}
 use Rattle.channel.proofs.page.write_rows.Needs as need
@@ -31,3 +32,16 @@ loop-i-again g c =
       kept-more i _ _ _ (inv .3),
       kept-more i _ _ _ (inv .4),
     )
+
+pub returns : need.returns
+returns g c =
+    let inv = c .loop-i .inv in
+    let all : c .loop-i .i ≡ c .args .count = omega arith in
+    record {
+      written =
+          subst (λ n. Written (g .Symbol·Symbol .whole) (g .Probability·BitArray .value) (g .M·EntropyModel .meaning (c .args .model .now)) (c .args .first) n (c .loop-i .symbols) (c .loop-i .starts) (c .loop-i .lengths)) all
+          (inv .1);
+      symbols = subst (λ n. KeptFrom n (c .args .symbols .now) (c .loop-i .symbols)) all (inv .2);
+      starts = subst (λ n. KeptFrom n (c .args .starts .now) (c .loop-i .starts)) all (inv .3);
+      lengths = subst (λ n. KeptFrom n (c .args .lengths .now) (c .loop-i .lengths)) all (inv .4);
+    }

@@ -5,11 +5,11 @@ use Rattle.std.proofs.shelf.Results.{made-from-err}
 use Rattle.quantize.specs.Extents.{means}
 use Rattle.quantize.specs.declared.quantizer.LeakilyQuantizedDistribution.{LeakilyQuantizedDistribution}
 use Rattle.quantize.specs.declared.quantizer.LeakyQuantizer.{LeakyQuantizer}
-use Rattle.channel.specs.Logs.{eventOf}
+use Rattle.histories.specs.Logs.{eventOf}
 use Rattle.channel.specs.Steps.{State, at, Run}
-use Rattle.channel.proofs.Ends.{two-ends}
-use Rattle.channel.proofs.Histories.{every-history}
-use Rattle.channel.proofs.replay.replay.Needs as need
+use Rattle.histories.proofs.Ends.{two-ends}
+use Rattle.histories.proofs.Histories.{every-history}
+use Rattle.histories.proofs.replay.replay.Needs as need
 
 pub returns-in-Break-log : need.returns-in-Break-log
 returns-in-Break-log g c = record {

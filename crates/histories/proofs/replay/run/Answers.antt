@@ -3,10 +3,10 @@ use mathlib.Core.List.{[], _∷_, _++_}
 use lib.Seq.{take-all}
 use Rattle.std.specs.Of.Vec.{vec-items}
 use Rattle.std.proofs.shelf.Results.{made-from-err}
-use Rattle.channel.specs.Logs.{callOf, eventOf}
+use Rattle.histories.specs.Logs.{callOf, eventOf}
 use Rattle.channel.specs.Steps.{at}
-use Rattle.channel.proofs.Logged.{calls-more, events-more}
-use Rattle.channel.proofs.replay.run.Needs as need
+use Rattle.histories.proofs.Logged.{calls-more, events-more}
+use Rattle.histories.proofs.replay.run.Needs as need
 
 pub returns-in-Break-apply : need.returns-in-Break-apply
 returns-in-Break-apply g c = record {
@@ -28,8 +28,10 @@ loop-call-again g c =
     let grown : after ≡ before ++ entry ∷ [] = c .in-Continue-push .ensures tt .items in (
       calls-more before after entry grown callOf (c .args .calls .now) (c .loop-call .call-index) (c .call-item .result)
           (c .loop-call-test .taken) (c .call-item .is) (c .in-Continue-apply .ensures tt .call) (c .loop-call .inv .0),
-      events-more (eventOf (g .Symbol·Symbol .whole) (g .Probability·BitArray .value) (g .M·Tunable .heights)) before after entry grown _
-          (at (g .M·EntropyModel .meaning (c .loop-call .channel .model)) (c .loop-call .channel .row)) _
+      events-more (eventOf (g .Symbol·Symbol .whole) (g .Probability·BitArray .value) (g .M·Tunable .heights)) before after entry grown
+          (at (g .M·EntropyModel .meaning (c .args .channel .now .model)) (c .args .channel .now .row))
+          (at (g .M·EntropyModel .meaning (c .loop-call .channel .model)) (c .loop-call .channel .row))
+          (at (g .M·EntropyModel .meaning (c .apply .last .channel .model)) (c .apply .last .channel .row))
           (c .loop-call .inv .1) (c .in-Continue-apply .ensures tt .step),
     )
 

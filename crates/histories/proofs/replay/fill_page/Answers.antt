@@ -1,7 +1,7 @@
 use mathlib.Core.Path.{sym, _∙_}
 use native.Mathlib.Omega.{arith}
 use Rattle.channel.proofs.Pages.{lent-back, renamed}
-use Rattle.channel.proofs.replay.fill_page.Needs as need
+use Rattle.histories.proofs.replay.fill_page.Needs as need
 
 pub returns : need.returns
 returns g c = record {

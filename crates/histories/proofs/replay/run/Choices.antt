@@ -2,9 +2,9 @@ use mathlib.Core.List.{map}
 use mathlib.Core.Path.{_≡_}
 use lib.ListN.{take}
 use Rattle.std.specs.Of.Vec.{vec-items}
-use Rattle.channel.specs.Logs.{callOf, eventOf}
+use Rattle.histories.specs.Logs.{callOf, eventOf}
 use Rattle.channel.specs.Steps.{at, Run}
-use Rattle.channel.proofs.replay.run.Given as given
+use Rattle.histories.proofs.replay.run.Given as given
 
 abbrev pub Inv-loop-call : given.InvT-loop-call
 Inv-loop-call g l =

@@ -5,11 +5,11 @@ use Rattle.std.specs.Of.Vec.{vec-items}
 use Rattle.std.proofs.shelf.Results.{made-from-err}
 use Rattle.uniform.specs.Uniform.{uniform}
 use Rattle.uniform.specs.declared.model.UniformModel.{UniformModel}
-use Rattle.channel.specs.Logs.{eventOf, untunable}
+use Rattle.histories.specs.Logs.{eventOf, untunable}
 use Rattle.channel.specs.Steps.{State, at, Run}
-use Rattle.channel.proofs.Histories.{every-uniform-history}
-use Rattle.channel.proofs.Logged.{never-tuned}
-use Rattle.channel.proofs.replay.replay_uniform.Needs as need
+use Rattle.histories.proofs.Histories.{every-uniform-history}
+use Rattle.histories.proofs.Logged.{never-tuned}
+use Rattle.histories.proofs.replay.replay_uniform.Needs as need
 
 pub returns-in-Break-log : need.returns-in-Break-log
 returns-in-Break-log g c = record {

@@ -6,15 +6,15 @@ use Rattle.std.specs.Of.Vec.{vec-items}
 use Rattle.std.specs.Options.{mapped}
 use Rattle.measures.specs.Logarithms.{fine}
 use Rattle.models.specs.Heights.{Height}
 use Rattle.channel.specs.Answered.{pairOf, rowIs, foundIs, sharesIs, buffersOf}
 use Rattle.channel.specs.Events.{encoded, searched, likely, tabled, measured, Event, asked, stepped, filled, rewound, retuned}
-use Rattle.channel.specs.declared.replay.Call.{Call}
-use Rattle.channel.specs.declared.replay.Call.the-variants.{Encode, Search, Probability, TableRow, Entropy, Next, Fill, Rewind, Retune}
-use Rattle.channel.specs.declared.replay.Entry.{Entry}
-use Rattle.channel.specs.declared.replay.Entry.the-variants.{Encoded, Searched, Likely, Tabled, Measured, Stepped, Filled, Rewound, Retuned}
-use Rattle.channel.specs.declared.replay.Page.{Page}
-use Rattle.channel.specs.declared.replay.Slots.{Slots}
+use Rattle.histories.specs.declared.replay.Call.{Call}
+use Rattle.histories.specs.declared.replay.Call.the-variants.{Encode, Search, Probability, TableRow, Entropy, Next, Fill, Rewind, Retune}
+use Rattle.histories.specs.declared.replay.Entry.{Entry}
+use Rattle.histories.specs.declared.replay.Entry.the-variants.{Encoded, Searched, Likely, Tabled, Measured, Stepped, Filled, Rewound, Retuned}
+use Rattle.histories.specs.declared.replay.Page.{Page}
+use Rattle.histories.specs.declared.replay.Slots.{Slots}
 use Rattle.channel.specs.declared.tune.Never.{Never}
 
 -- what tunes a model that cannot be tuned: nothing
 abbrev pub untunable : Never → Height

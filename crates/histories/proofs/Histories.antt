@@ -20,11 +20,11 @@ use Rattle.quantize.specs.Quantized.{quantized}
 use Rattle.quantize.proofs.Starts.{quantized-cuts}
 use Rattle.uniform.specs.Uniform.{uniform}
 use Rattle.uniform.proofs.Even.{even-cuts}
 use Rattle.channel.specs.Events.{rowsIn, Event, asked, stepped, filled, rewound, retuned, handedAfter, handed, tuning, heightsAfter, Untuned}
-use Rattle.channel.specs.Promises.{Kept, Opening, opened, meansAfter, Every-history, Every-uniform-history}
+use Rattle.histories.specs.Promises.{Kept, Opening, opened, meansAfter, Every-history, Every-uniform-history}
 use Rattle.channel.specs.Rows.{Row, rowOf, firstRows}
 use Rattle.channel.specs.Steps.{State, at, itself, Step, Run, Retuned}
-use Rattle.channel.proofs.Walks.{is-row, filled-rows, firstRows-length}
+use Rattle.histories.proofs.Walks.{is-row, filled-rows, firstRows-length}
 
 -- the rows handed out are the first ones of a lawful model
 record Walked (s : State) (rows : List Row) : Type 0 where

@@ -5,12 +5,12 @@ use Prim.Native.Nat.{ℕ, _+_, _<_}
 use lib.IntN.{ℤ}
 use lib.ListN.{length, take, getD}
 use Rattle.std.proofs.shelf.Lists.{map-push, take-more}
 use Rattle.channel.specs.Events.{Event, Untuned}
-use Rattle.channel.specs.Logs.{eventOf, untunable}
+use Rattle.histories.specs.Logs.{eventOf, untunable}
 use Rattle.channel.specs.Steps.{State, Step, Run}
-use Rattle.channel.specs.declared.replay.Entry.{Entry}
-use Rattle.channel.specs.declared.replay.Entry.the-variants.{Encoded, Searched, Likely, Tabled, Measured, Stepped, Filled, Rewound, Retuned}
+use Rattle.histories.specs.declared.replay.Entry.{Entry}
+use Rattle.histories.specs.declared.replay.Entry.the-variants.{Encoded, Searched, Likely, Tabled, Measured, Stepped, Filled, Rewound, Retuned}
 use Rattle.channel.specs.declared.tune.Never.{Never}
 
 run-more : (s t u : State) (es : List Event) (e : Event) → Run s es t → Step t e u → Run s (es ++ e ∷ []) u
 run-more s t u [] e run step = (u, subst (λ (x : State). Step x e u) run step, refl)

@@ -9,10 +9,10 @@ use Rattle.models.specs.Heights.{Height, Lawful}
 use Rattle.models.specs.Meaning.{Meaning, Interval, Holds}
 use Rattle.quantize.specs.Quantized.{quantized, startOf}
 use Rattle.quantize.proofs.Agreement.{starts-agree}
 use Rattle.channel.specs.Events.{heightsAfter}
-use Rattle.channel.specs.Promises.{Opening, opened, meansAfter, Two-ends}
+use Rattle.histories.specs.Promises.{Opening, opened, meansAfter, Two-ends}
 use Rattle.channel.specs.Rows.{Row, rowOf}
-use Rattle.channel.proofs.Histories.{every-history, lawful-after}
+use Rattle.histories.proofs.Histories.{every-history, lawful-after}
 
 -- models with one support whose starts agree hold a quantile in the same row
 moved : (low : ℤ) (span bits : ℕ) (h h' : Height) → ((i : ℕ) → startOf low span bits h i ≡ startOf low span bits h' i)

@@ -1,7 +1,7 @@
 -- What a checked support and a distribution open. Assumes nothing.
 use Rattle.models.specs.Heights.{Height, Lawful}
 use Rattle.quantize.specs.declared.extent.Extent.{Extent}
-use Rattle.channel.specs.Promises.{Opening}
+use Rattle.histories.specs.Promises.{Opening}
 
 abbrev pub openingOf : Extent → (h : Height) → Lawful h → Opening
 openingOf e h law = record {

@@ -1,0 +1,4 @@
+pub mod Walks
+pub mod Histories
+pub mod Ends
+pub mod Logged
