@@ -1,4 +1,6 @@
 // What a driver needs to run every make of model beside another implementation, and to time it. Only such a driver uses it.
+#![tactic(auto)]
+
 pub mod ask;
 pub mod calls;
 pub mod even;

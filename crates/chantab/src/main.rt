@@ -1,4 +1,6 @@
 // Lists the tables of the channels whose records come on standard input.
+#![tactic(auto)]
+
 use anyhow::anyhow;
 use records::layout::RECORD_LEN;
 use records::listing::{push_channel, push_refused};

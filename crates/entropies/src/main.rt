@@ -1,4 +1,6 @@
 // How far the entropies by the fine logarithm lie from the formulas with the C library's log2, over the rows of some models.
+#![tactic(auto)]
+
 use anyhow::anyhow;
 use channel::walk::Channel;
 use distributions::peak::Peak;

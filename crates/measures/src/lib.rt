@@ -1,4 +1,6 @@
 // Measures of a model: the probabilities of its symbols as floats, and the bits that a reading takes.
+#![tactic(auto)]
+
 pub mod entropy;
 pub mod logarithm;
 pub mod probability;

@@ -1,5 +1,7 @@
 // Channel records and the lines of a listing.
 // A record is 32 bytes that describe one channel; a listing is the text that shows the channels' tables.
+#![tactic(auto)]
+
 pub mod fault;
 pub mod layout;
 pub mod listing;

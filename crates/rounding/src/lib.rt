@@ -1,6 +1,8 @@
 // What the rounded operations on floats keep of the order of numbers, and the few operations that a
 // quantizer makes of them. A function that ends in `stand` or `stands` computes nothing: its contract is
 // a family of laws, which its proof shows.
+#![tactic(auto)]
+
 ghost use Rattle.rounding.specs.Order.{OrderLaws, lesser as the-lesser};
 ghost use Rattle.rounding.specs.Products.{ProductLaws};
 ghost use Rattle.rounding.specs.Quotients.{QuotientLaws};

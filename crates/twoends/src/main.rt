@@ -1,5 +1,7 @@
 // The winch end and the cab end of one line, of different makes, run through replay: readings go to intervals, numbers from the
 // intervals come back as readings, the tables are walked and filled, and one end is retuned.
+#![tactic(auto)]
+
 use anyhow::anyhow;
 use channel::tune::Never;
 use distributions::fault::DistributionFault;

@@ -8,6 +8,6 @@ pow2-modulo-requires g c = omega (arith, g.met.T.BitArray.narrow)
 pub returns : goal.returns
 returns g c =
     let w = g.T.BitArray.width in
-    c.wrapping-from-u64.ensures
-    ∙ ap (λ n. n % 2 ^ w) (c.pow2-modulo.ensures ∙ ap (λ v. 2 ^ c.args.exponent % 2 ^ v) c.bits.ensures)
+    c.wrapping_from_u64.ensures
+    ∙ ap (λ n. n % 2 ^ w) (c.pow2_modulo.ensures ∙ ap (λ v. 2 ^ c.args.exponent % 2 ^ v) c.bits.ensures)
     ∙ mod-mod (2 ^ c.args.exponent) (2 ^ w)
