@@ -2,8 +2,8 @@ use Rattle.std.proofs.Common.{◌%◌, ◌^◌, ap, ◌∙◌, arith}
 use native.Mathlib.Nat.{mod-mod}
 use Rattle.models.proofs.bits.wrapping_pow2.Goals as goal
 
-pub pow2-modulo-requires : goal.pow2-modulo-requires
-pow2-modulo-requires g c = omega (arith, g.met.T.BitArray.narrow)
+pub pow2_modulo-requires : goal.pow2_modulo-requires
+pow2_modulo-requires g c = omega (arith, g.met.T.BitArray.narrow)
 
 pub returns : goal.returns
 returns g c =
