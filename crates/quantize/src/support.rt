@@ -64,11 +64,11 @@ impl Support for CheckedSupport<32768, 32767, 16> {
 
     ghost covered = { λ s. s.extent };
 
-    ghost from = { first_of (Prim.search rules, Prim.grind (arith, Self.row.coded.inj)) };
+    ghost from = { Prim.search rules };
 
-    ghost to = { first_of (Prim.search rules, Prim.grind (arith, Self.row.coded.inj)) };
+    ghost to = { Prim.search rules };
 
-    ghost fits = { first_of (Prim.search rules, Prim.grind (arith, Self.row.coded.inj)) };
+    ghost fits = { Prim.search rules };
 
     fn checked(
         min: i16,
@@ -91,11 +91,11 @@ impl Support for CheckedSupport<32768, 32767, 32> {
 
     ghost covered = { λ s. s.extent };
 
-    ghost from = { first_of (Prim.search rules, Prim.grind (arith, Self.row.coded.inj)) };
+    ghost from = { Prim.search rules };
 
-    ghost to = { first_of (Prim.search rules, Prim.grind (arith, Self.row.coded.inj)) };
+    ghost to = { Prim.search rules };
 
-    ghost fits = { first_of (Prim.search rules, Prim.grind (arith, Self.row.coded.inj)) };
+    ghost fits = { Prim.search rules };
 
     fn checked(
         min: i16,
@@ -118,11 +118,11 @@ impl Support for CheckedSupport<0, 65535, 16> {
 
     ghost covered = { λ s. s.extent };
 
-    ghost from = { first_of (Prim.search rules, Prim.grind (arith, Self.row.coded.inj)) };
+    ghost from = { Prim.search rules };
 
-    ghost to = { first_of (Prim.search rules, Prim.grind (arith, Self.row.coded.inj)) };
+    ghost to = { Prim.search rules };
 
-    ghost fits = { first_of (Prim.search rules, Prim.grind (arith, Self.row.coded.inj)) };
+    ghost fits = { Prim.search rules };
 
     fn checked(
         min: u16,
@@ -145,11 +145,11 @@ impl Support for CheckedSupport<0, 65535, 32> {
 
     ghost covered = { λ s. s.extent };
 
-    ghost from = { first_of (Prim.search rules, Prim.grind (arith, Self.row.coded.inj)) };
+    ghost from = { Prim.search rules };
 
-    ghost to = { first_of (Prim.search rules, Prim.grind (arith, Self.row.coded.inj)) };
+    ghost to = { Prim.search rules };
 
-    ghost fits = { first_of (Prim.search rules, Prim.grind (arith, Self.row.coded.inj)) };
+    ghost fits = { Prim.search rules };
 
     fn checked(
         min: u16,
@@ -172,11 +172,11 @@ impl Support for CheckedSupport<2147483648, 2147483647, 16> {
 
     ghost covered = { λ s. s.extent };
 
-    ghost from = { first_of (Prim.search rules, Prim.grind (arith, Self.row.coded.inj)) };
+    ghost from = { Prim.search rules };
 
-    ghost to = { first_of (Prim.search rules, Prim.grind (arith, Self.row.coded.inj)) };
+    ghost to = { Prim.search rules };
 
-    ghost fits = { first_of (Prim.search rules, Prim.grind (arith, Self.row.coded.inj)) };
+    ghost fits = { Prim.search rules };
 
     fn checked(
         min: i32,
@@ -199,11 +199,11 @@ impl Support for CheckedSupport<2147483648, 2147483647, 32> {
 
     ghost covered = { λ s. s.extent };
 
-    ghost from = { first_of (Prim.search rules, Prim.grind (arith, Self.row.coded.inj)) };
+    ghost from = { Prim.search rules };
 
-    ghost to = { first_of (Prim.search rules, Prim.grind (arith, Self.row.coded.inj)) };
+    ghost to = { Prim.search rules };
 
-    ghost fits = { first_of (Prim.search rules, Prim.grind (arith, Self.row.coded.inj)) };
+    ghost fits = { Prim.search rules };
 
     fn checked(
         min: i32,
@@ -226,11 +226,11 @@ impl Support for CheckedSupport<0, 4294967295, 16> {
 
     ghost covered = { λ s. s.extent };
 
-    ghost from = { first_of (Prim.search rules, Prim.grind (arith, Self.row.coded.inj)) };
+    ghost from = { Prim.search rules };
 
-    ghost to = { first_of (Prim.search rules, Prim.grind (arith, Self.row.coded.inj)) };
+    ghost to = { Prim.search rules };
 
-    ghost fits = { first_of (Prim.search rules, Prim.grind (arith, Self.row.coded.inj)) };
+    ghost fits = { Prim.search rules };
 
     fn checked(
         min: u32,
@@ -253,11 +253,11 @@ impl Support for CheckedSupport<0, 4294967295, 32> {
 
     ghost covered = { λ s. s.extent };
 
-    ghost from = { first_of (Prim.search rules, Prim.grind (arith, Self.row.coded.inj)) };
+    ghost from = { Prim.search rules };
 
-    ghost to = { first_of (Prim.search rules, Prim.grind (arith, Self.row.coded.inj)) };
+    ghost to = { Prim.search rules };
 
-    ghost fits = { first_of (Prim.search rules, Prim.grind (arith, Self.row.coded.inj)) };
+    ghost fits = { Prim.search rules };
 
     fn checked(
         min: u32,

@@ -4,10 +4,11 @@ use native.Mathlib.Nat.{lt-div-mul-add}
 use Rattle.std.proofs.lemmas.Bool.{cond-true, cond-false, lt-ltb, le-ltb}
 use Rattle.models.specs.Meaning.{Meaning, Partition, Holds}
 use Rattle.uniform.specs.Uniform.{uniform}
+use Rattle.uniform.specs.EvenCuts.{even_cuts}
 
 module _ (bits range : ℕ) (many : 2 ≤ range) (room : range ≤ 2 ^ bits) where
-  pub even_cuts : Partition (uniform bits range)
-  even_cuts = search rules
+  cuts : Partition (uniform bits range)
+  cuts = even_cuts bits range many room
 
   start_inside : (i : ℕ) → i < range → (uniform bits range).start i ≡ i * (2 ^ bits / range)
   start_inside i h = cond-true (ltb i range) _ _ (lt-ltb i range h)
@@ -16,7 +17,7 @@ module _ (bits range : ℕ) (many : 2 ≤ range) (room : range ≤ 2 ^ bits) whe
   start_past i h = cond-false (ltb i range) _ _ (le-ltb i range h)
 
   each_some : 0 < 2 ^ bits / range
-  each_some = omega (arith, even_cuts.rises 0 (omega arith), start_inside 0 (omega arith), start_inside 1 (omega arith))
+  each_some = omega (arith, cuts.rises 0 (omega arith), start_inside 0 (omega arith), start_inside 1 (omega arith))
 
   -- a quantile's quotient by a row's length is its row, but for the last row, which takes the rest
   quotient : (q : ℕ) → q / (2 ^ bits / range) < range - 1 → Holds (uniform bits range) q (q / (2 ^ bits / range))

@@ -1,1 +1,2 @@
+pub mod EvenCuts
 pub mod Uniform

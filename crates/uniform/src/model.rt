@@ -3,6 +3,7 @@ ghost use Rattle.std.specs.Prelude.{◌≡◌, ◌^◌, ◌<◌, pos};
 ghost use Rattle.models.specs.Answers.{Makes, IsRow};
 ghost use Rattle.models.specs.Meaning.{Interval, Holds};
 ghost use Rattle.uniform.specs.Uniform.{uniform, refusal};
+ghost use Rattle.uniform.specs.EvenCuts.{even_cuts};
 ghost use Rattle.std.proofs.Common.{rules};
 
 use crate::range::UniformRange;
@@ -77,7 +78,7 @@ impl<R: UniformRange> EntropyModel for UniformModel<R> {
 
     ghost meaning = { λ u. uniform (R.UniformRange.bits u.range) (R.UniformRange.count u.range) };
 
-    ghost cuts = { Prim.search rules };
+    ghost cuts = { λ u. even_cuts _ _ (R.UniformRange.many u.range) (R.UniformRange.room u.range) };
 
     ghost fits = { Prim.search rules };
 }

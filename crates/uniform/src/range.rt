@@ -43,6 +43,10 @@ pub trait UniformRange: Copy {
     // how many symbols there are
     ghost count: { Self → ℕ };
 
+    ghost many: { (c : Self) → 2 ≤ count c };
+
+    ghost room: { (c : Self) → count c ≤ 2 ^ bits c };
+
     // Checks the precision, then the range.
     fn checked(precision: u32, range: usize) -> Result<Self, ModelFault>
         ensures { Makes (refusal Self.Probability.BitArray.width precision range) (λ c. (bits c ≡ precision) × (count c ≡ range)) result };
@@ -60,10 +64,6 @@ pub trait UniformRange: Copy {
     ghost some: { (c : Self) → 0 < bits c };
 
     ghost fits: { (c : Self) → bits c ≤ Self.Probability.BitArray.width };
-
-    ghost many: { (c : Self) → 2 ≤ count c };
-
-    ghost room: { (c : Self) → count c ≤ 2 ^ bits c };
 }
 
 impl UniformRange for EvenRange<16> {
@@ -73,13 +73,13 @@ impl UniformRange for EvenRange<16> {
 
     ghost count = { λ c. c.range };
 
-    ghost some = { first_of (Prim.search rules, Prim.grind (arith, Self.row.coded.inj)) };
+    ghost some = { Prim.search rules };
 
-    ghost fits = { first_of (Prim.search rules, Prim.grind (arith, Self.row.coded.inj)) };
+    ghost fits = { Prim.search rules };
 
-    ghost many = { first_of (Prim.search rules, Prim.grind (arith, Self.row.coded.inj)) };
+    ghost many = { λ c. c.many };
 
-    ghost room = { first_of (Prim.search rules, Prim.grind (arith, Self.row.coded.inj)) };
+    ghost room = { λ c. c.room };
 
     fn checked(precision: u32, range: usize) -> Result<EvenRange<16>, ModelFault> {
         let length = checked_length(16, precision, range)?;
@@ -110,13 +110,13 @@ impl UniformRange for EvenRange<32> {
 
     ghost count = { λ c. c.range };
 
-    ghost some = { first_of (Prim.search rules, Prim.grind (arith, Self.row.coded.inj)) };
+    ghost some = { Prim.search rules };
 
-    ghost fits = { first_of (Prim.search rules, Prim.grind (arith, Self.row.coded.inj)) };
+    ghost fits = { Prim.search rules };
 
-    ghost many = { first_of (Prim.search rules, Prim.grind (arith, Self.row.coded.inj)) };
+    ghost many = { λ c. c.many };
 
-    ghost room = { first_of (Prim.search rules, Prim.grind (arith, Self.row.coded.inj)) };
+    ghost room = { λ c. c.room };
 
     fn checked(precision: u32, range: usize) -> Result<EvenRange<32>, ModelFault> {
         let length = checked_length(32, precision, range)?;

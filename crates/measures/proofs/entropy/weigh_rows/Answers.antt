@@ -6,19 +6,19 @@ use Rattle.measures.proofs.entropy.weigh_rows.Goals as goal
 pub loop-length-init : goal.loop-length-init
 loop-length-init g c = (zero-le, sym (weighed_none _ _))
 
-pub overflow-add-sum : goal.overflow-add-sum
-overflow-add-sum g c =
+pub overflow_add-sum : goal.overflow_add-sum
+overflow_add-sum g c =
     let m = g.M.EntropyModel.meaning c.args.model.now in
     let row = c.in-Some.ensures in
     omega (
       arith,
-      turn g.L.Logarithm.value m c.loop-length.index _ _ _ _ _ c.loop-length.invariant.1 row.interval c.to-u64.ensures.value c.log2-of.ensures.value,
+      turn g.L.Logarithm.value m c.loop-length.index _ _ _ _ _ c.loop-length.invariant.1 row.interval c.to_u64.ensures.value c.log2_of.ensures.value,
       part_fits m (g.M.EntropyModel.cuts c.args.model.now) g.L.Logarithm.value g.L.Logarithm.slack g.met.L.Logarithm.bounds c.requires
           (suc c.loop-length.index) (omega (arith, row.at.within)),
     )
 
-pub overflow-add-index : goal.overflow-add-index
-overflow-add-index g c =
+pub overflow_add-index : goal.overflow_add-index
+overflow_add-index g c =
     let m = g.M.EntropyModel.meaning c.args.model.now in
     let law = g.M.EntropyModel.cuts c.args.model.now in
     omega (
@@ -34,5 +34,5 @@ loop-length-preserved g c =
     let row = c.in-Some.ensures in (
       omega (arith, row.at.within),
       rw add-one
-          (turn g.L.Logarithm.value m c.loop-length.index _ _ _ _ _ c.loop-length.invariant.1 row.interval c.to-u64.ensures.value c.log2-of.ensures.value),
+          (turn g.L.Logarithm.value m c.loop-length.index _ _ _ _ _ c.loop-length.invariant.1 row.interval c.to_u64.ensures.value c.log2_of.ensures.value),
     )

@@ -2,15 +2,15 @@ use Rattle.rounding.proofs.Literals.{nought_bits}
 use Rattle.measures.proofs.Rows.{share, likely}
 use Rattle.measures.proofs.probability.floating_point_probability.Goals as goal
 
-pub returns-in-default : goal.returns-in-default
-returns-in-default g c =
-    record { outside = λ _. nought_bits; inside = λ i at. absurd (c.in-default.ensures i at) }
+pub returns-in_default : goal.returns-in_default
+returns-in_default g c =
+    record { outside = λ _. nought_bits; inside = λ i at. absurd (c.in_default.ensures i at) }
 
 pub returns : goal.returns
 returns g c =
     let found = c.in-Some.ensures in
     let m = g.M.EntropyModel.meaning c.args.model.now in
-    likely m (g.row.M-Symbol-Symbol.whole c.args.symbol) found.0 _ _ _ found.1 found.2
-    (share m.bits g.Probability.BitArray.width _ _ c.quantiles.result _ _
-    c.quantiles.ensures.narrow g.met.Probability.BitArray.narrow c.to-u64.ensures.value c.to-u64.ensures.within
+    likely m (g.M.Symbol.Symbol.whole c.args.symbol) found.0 _ _ _ found.1 found.2
+    (share m.bits g.M.Probability.BitArray.width _ _ c.quantiles.result _ _
+    c.quantiles.ensures.narrow g.met.M.Probability.BitArray.narrow c.to_u64.ensures.value c.to_u64.ensures.within
     c.quantiles.ensures.value c.natural.ensures c.natural-2.ensures)

@@ -8,6 +8,17 @@ ramp-rises zero h = zero-le
 ramp-rises (suc zero) h = zero-le
 ramp-rises (suc (suc i)) h = omega arith
 
-pub invariant-of-result : goal.invariant-of-result
-invariant-of-result c =
-    (omega (arith, ints), (omega (arith, ints), (lit< tt, (lit≤ tt, (lit≤ tt, (lit≤ tt, (lit≤ tt, (refl, (ramp-rises, (lit< tt, tt))))))))))
+pub invariant_of-result : goal.invariant_of-result
+invariant_of-result c =
+    record {
+      low = omega (arith, ints);
+      high = omega (arith, ints);
+      held = lit< tt;
+      some = lit≤ tt;
+      many = lit≤ tt;
+      wide = lit≤ tt;
+      bounded = lit≤ tt;
+      first = refl;
+      rising = ramp-rises;
+      last = lit< tt;
+    }

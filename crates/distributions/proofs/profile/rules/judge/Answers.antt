@@ -30,6 +30,6 @@ pub returns-then-knots-n-eq0 : goal.returns-then-knots-n-eq0
 returns-then-knots-n-eq0 c =
     record {
       place = _;
-      breaks = last (record { some = c.if-n-lt2.false; most = c.if-n-gt1025.false }) (record { some = c.if-width-lt1.false; most = c.if-width-gt65536.false }) c.if-knots-ne0.false c.in-default.ensures c.if-knots-n-eq0.true refl;
+      breaks = last (record { some = c.if-n-lt2.false; most = c.if-n-gt1025.false }) (record { some = c.if-width-lt1.false; most = c.if-width-gt65536.false }) c.if-knots-ne0.false c.in_default.ensures c.if-knots-n-eq0.true refl;
       fault = refl;
     }

@@ -9,8 +9,8 @@ returns-then-n-eq0 c = sym fine_bounds.none ∙ ap fine (sym c.if-n-eq0.true)
 pub loop-k-init : goal.loop-k-init
 loop-k-init c = rw c.place-v.ensures (turning_none c.args.n (omega arith) (omega arith))
 
-pub overflow-add-v : goal.overflow-add-v
-overflow-add-v c =
+pub overflow_add-v : goal.overflow_add-v
+overflow_add-v c =
     let next = turning_more c.args.n c.loop-k.k _ _ _ c.loop-k.invariant (omega (arith, c.loop-k-test.true)) c.square-bit.ensures in
     omega (arith, next.value, fine_fits c.args.n)
 

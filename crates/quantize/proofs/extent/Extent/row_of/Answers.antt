@@ -3,8 +3,8 @@ use mir.Syntax.{w128}
 use Rattle.std.proofs.lemmas.Int.{ints}
 use Rattle.quantize.proofs.extent.Extent.row_of.Goals as goal
 
-pub overflow-cast-result : goal.overflow-cast-result
-overflow-cast-result c = (grind (arith, ints), omega (arith, ints))
+pub overflow_cast-result : goal.overflow_cast-result
+overflow_cast-result c = (grind (arith, ints), omega (arith, ints))
 
 pub returns : goal.returns
 returns c = (omega (arith, ints), omega (arith, ints))

@@ -20,8 +20,8 @@ symbol-is e row h = omega (arith, ints, e.from, e.to)
 weight_is : (e : Extent) → to_z w64 e.free_weight ≡ pos (free_weight_of e.precision e.span)
 weight_is e = omega (arith, ints, e.weighs, pow_mono e.narrow)
 
-pub whole-part-requires : goal.whole-part-requires
-whole-part-requires g c =
+pub whole_part-requires : goal.whole_part-requires
+whole_part-requires g c =
     let e = c.args.self.now in
     let h = g.D.Distribution.height c.args.d.now in
     let symbol = symbol-is e c.args.row c.requires in
@@ -37,7 +37,7 @@ returns g c =
     let e = c.args.self.now in
     let h = g.D.Distribution.height c.args.d.now in
     let symbol = symbol-is e c.args.row c.requires in
-    let value : c.whole-part.result ≡ weighed (free_weight_of e.precision e.span) (h (half_below (e.low +ℤ pos c.args.row))) =
+    let value : c.whole_part.result ≡ weighed (free_weight_of e.precision e.span) (h (half_below (e.low +ℤ pos c.args.row))) =
     cc (half_bits, weight_is e) in
     record {
       value = value;

@@ -5,21 +5,21 @@ use Rattle.rounding.proofs.Cuts.{Cut, cut_by_sum}
 use Rattle.rounding.proofs.Literals.{wholes_bits}
 use Rattle.quantize.proofs.extent.starts.whole_part.Goals as goal
 
-pub float-to-int-nearest : goal.float-to-int-nearest
-float-to-int-nearest c = (cut_by_sum c.args.x _ wholes_bits c.requires.from c.requires.to).cast
+pub float_to_int-nearest : goal.float_to_int-nearest
+float_to_int-nearest c = (cut_by_sum c.args.x _ wholes_bits c.requires.from c.requires.to).cast
 
-pub overflow-cast-nearest : goal.overflow-cast-nearest
-overflow-cast-nearest c =
+pub overflow_cast-nearest : goal.overflow_cast-nearest
+overflow_cast-nearest c =
     let cut = cut_by_sum c.args.x _ wholes_bits c.requires.from c.requires.to in
     (omega (arith, ints, cut.is), omega (arith, ints, cut.is))
 
-pub overflow-sub-nearest : goal.overflow-sub-nearest
-overflow-sub-nearest c =
+pub overflow_sub-nearest : goal.overflow_sub-nearest
+overflow_sub-nearest c =
     let cut = cut_by_sum c.args.x _ wholes_bits c.requires.from c.requires.to in
     omega (arith, ints, cut.is)
 
-pub overflow-sub-result : goal.overflow-sub-result
-overflow-sub-result c =
+pub overflow_sub-result : goal.overflow_sub-result
+overflow_sub-result c =
     let cut = cut_by_sum c.args.x _ wholes_bits c.requires.from c.requires.to in
     let over = cut.over c.if-x-raised.true in
     omega (arith, ints, cut.is)

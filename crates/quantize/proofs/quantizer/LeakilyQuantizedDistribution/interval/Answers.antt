@@ -3,8 +3,8 @@ use Rattle.models.proofs.Cuts.{interval_between, interval_held}
 use Rattle.quantize.specs.ExtentsLemmas.{means_cut}
 use Rattle.quantize.proofs.quantizer.LeakilyQuantizedDistribution.interval.Goals as goal
 
-pub overflow-sub-end : goal.overflow-sub-end
-overflow-sub-end g c =
+pub overflow_sub-end : goal.overflow_sub-end
+overflow_sub-end g c =
     let m = c.args.self.now in
     let cuts = means_cut (g.S.Support.covered m.quantizer.support) _ (g.D.Distribution.lawful m.inner) in
     omega (arith, c.requires.starts, c.requires.ends, cuts.rises c.args.row c.requires.within)
@@ -16,5 +16,5 @@ returns g c =
     let support = m.quantizer.support in
     let cuts = means_cut (g.S.Support.covered support) _ (g.D.Distribution.lawful m.inner) in
     let there = interval_between _ cuts c.args.row _ _ c.requires.within c.requires.starts c.requires.ends in
-    rw (c.wrapping-from-u64.ensures, c.wrapping-from-u64-2.ensures)
+    rw (c.wrapping_from_u64.ensures, c.wrapping_from_u64-2.ensures)
     (interval_held _ cuts _ c.args.row _ _ (g.met.S.Support.fits support) c.requires.within there)

@@ -13,11 +13,11 @@ returns g c =
     let e = g.S.Support.covered m.quantizer.support in
     let h = g.D.Distribution.height m.inner in
     let row = c.lookup-row.result.0 in
-    let held : Holds (means c.extent-extent.result h) c.to-u64-q.result row =
-    bracket_holds (means c.extent-extent.result h) c.to-u64-q.result row c.lookup-row.result.1.0 c.lookup-row.result.1.1 c.lookup-row.ensures in
-    let here : Holds (means e h) c.to-u64-q.result row =
-    subst (λ (x : Extent). Holds (means x h) c.to-u64-q.result row) c.extent-extent.ensures held in
-    let holds = subst (λ q. Holds (means e h) q row) c.to-u64-q.ensures.value here in
+    let held : Holds (means c.extent-extent.result h) c.to_u64-q.result row =
+    bracket_holds (means c.extent-extent.result h) c.to_u64-q.result row c.lookup-row.result.1.0 c.lookup-row.result.1.1 c.lookup-row.ensures in
+    let here : Holds (means e h) c.to_u64-q.result row =
+    subst (λ (x : Extent). Holds (means x h) c.to_u64-q.result row) c.extent-extent.ensures held in
+    let holds = subst (λ q. Holds (means e h) q row) c.to_u64-q.ensures.value here in
     found _ _ (means e h) (means_cut e h (g.D.Distribution.lawful m.inner)) _ row _
     (record { at = record { within = holds.within; symbol = c.symbol.ensures }; interval = c.interval-left.ensures })
     holds

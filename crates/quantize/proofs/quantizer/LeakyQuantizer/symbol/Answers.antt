@@ -9,7 +9,7 @@ unreachable-requires g c =
     let support = c.args.self.now.support in
     let low : c.extent.result.low ≡ (g.S.Support.covered support).low = ap (λ (e : Extent). e.low) c.extent.ensures in
     let span : c.extent.result.span ≡ (g.S.Support.covered support).span = ap (λ (e : Extent). e.span) c.extent.ensures in
-    c.in-default.ensures
+    c.in_default.ensures
     (record {
       from = omega (arith, ints, g.met.S.Support.from support);
       to = omega (arith, ints, g.met.S.Support.to support);
