@@ -12,7 +12,7 @@ impl<M: EntropyModel> EntropyModel for Channel<M> {
 
     ghost meaning = { λ c. M.EntropyModel.meaning c.model };
 
-    ghost cuts = { Prim.search rules };
+    ghost cuts = { λ c. M.EntropyModel.cuts c.model };
 
     ghost fits = { Prim.search rules };
 }

@@ -12,7 +12,7 @@ overflow-add-rows g c =
       arith,
       c.loop-count.invariant.1,
       c.fill-count.ensures.step.1.left,
-      rows_few _ _ (laws.cuts model) (laws.fits model) g.met.Probability.BitArray.narrow,
+      rows_few _ _ (g.M.EntropyModel.cuts model) (laws.fits model) g.met.M.Probability.BitArray.narrow,
     )
 
 -- a fill that writes nothing has no room, or no row left

@@ -4,17 +4,17 @@ use Rattle.channel.proofs.Pages.{kept_more, written_more}
 use Rattle.models.proofs.Room.{rows_few}
 use Rattle.channel.proofs.page.write_rows.Goals as goal
 
-pub overflow-add-row : goal.overflow-add-row
-overflow-add-row g c =
+pub overflow_add-row : goal.overflow_add-row
+overflow_add-row g c =
     let laws = g.met.M.EntropyModel in
     let model = c.args.model.now in
-    omega (arith, c.requires.rows, rows_few _ _ (laws.cuts model) (laws.fits model) g.met.M.Probability.BitArray.narrow)
+    omega (arith, c.requires.rows, rows_few _ _ (g.M.EntropyModel.cuts model) (laws.fits model) g.met.M.Probability.BitArray.narrow)
 
-pub overflow-add-row-in-loop-i : goal.overflow-add-row-in-loop-i
-overflow-add-row-in-loop-i g c =
+pub overflow_add-row-in-loop-i : goal.overflow_add-row-in-loop-i
+overflow_add-row-in-loop-i g c =
     let laws = g.met.M.EntropyModel in
     let model = c.args.model.now in
-    omega (arith, c.requires.rows, rows_few _ _ (laws.cuts model) (laws.fits model) g.met.M.Probability.BitArray.narrow)
+    omega (arith, c.requires.rows, rows_few _ _ (g.M.EntropyModel.cuts model) (laws.fits model) g.met.M.Probability.BitArray.narrow)
 
 pub loop-i-preserved : goal.loop-i-preserved
 loop-i-preserved g c =
@@ -36,7 +36,7 @@ returns g c =
     let all : c.loop-i.i ≡ c.args.count = omega arith in
     record {
       written =
-          subst (λ n. Written g.row.M-Symbol-Symbol.whole g.M.Probability.BitArray.value (g.M.EntropyModel.meaning c.args.model.now) c.args.first n c.loop-i.symbols c.loop-i.starts c.loop-i.lengths) all
+          subst (λ n. Written g.M.Symbol.Symbol.whole g.M.Probability.BitArray.value (g.M.EntropyModel.meaning c.args.model.now) c.args.first n c.loop-i.symbols c.loop-i.starts c.loop-i.lengths) all
           inv.1;
       symbols = subst (λ n. KeptFrom n c.args.symbols.now c.loop-i.symbols) all inv.2;
       starts = subst (λ n. KeptFrom n c.args.starts.now c.loop-i.starts) all inv.3;

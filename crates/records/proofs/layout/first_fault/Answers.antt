@@ -13,12 +13,12 @@ head-says bytes i h =
 within : (bytes : List ℕ) (i : ℕ) → i < length (take 32 bytes) → i < 32
 within bytes i h = omega (arith, length-take 32 bytes)
 
-pub returns-then-is-wrong : goal.returns-then-is-wrong
-returns-then-is-wrong c =
+pub returns-then-is_wrong : goal.returns-then-is_wrong
+returns-then-is_wrong c =
     let h = within _ _ c.loop-place-test.true in
-    record { within = h; fault = head-says c.args.bytes.now c.loop-place.place h ∙ sym c.is-wrong.ensures ∙ c.if-is-wrong.true; before = c.loop-place.invariant }
+    record { within = h; fault = head-says c.args.bytes.now c.loop-place.place h ∙ sym c.is_wrong.ensures ∙ c.if-is_wrong.true; before = c.loop-place.invariant }
 
 pub loop-place-preserved : goal.loop-place-preserved
 loop-place-preserved c =
     below_more _ _ c.loop-place.invariant
-    (head-says c.args.bytes.now c.loop-place.place (within _ _ c.loop-place-test.true) ∙ sym c.is-wrong.ensures ∙ c.if-is-wrong.false)
+    (head-says c.args.bytes.now c.loop-place.place (within _ _ c.loop-place-test.true) ∙ sym c.is_wrong.ensures ∙ c.if-is_wrong.false)

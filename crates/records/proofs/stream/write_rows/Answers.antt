@@ -12,9 +12,9 @@ pub loop-next-preserved : goal.loop-next-preserved
 loop-next-preserved g c =
     let part = c.in-Some.ensures in
     let moves : c.loop-next.from < c.in-Some.next = part_moves _ _ _ _ _ part c.loop-next.invariant.0 in
-    (search rules, page_out _ _ _ _ _ _ _ c.loop-next.invariant.1 part c.in-ok-write-page.ensures moves)
+    (search rules, page_out _ _ _ _ _ _ _ c.loop-next.invariant.1 part c.in_ok-write_page.ensures moves)
 
 pub returns : goal.returns
 returns g c =
     listed_grown _ _ _ _ c.reserve.ensures.items c.reserve.ensures.len c.reserve.ensures.capacity
-    (last_page _ _ _ _ _ c.loop-next.invariant.1 c.in-default.ensures)
+    (last_page _ _ _ _ _ c.loop-next.invariant.1 c.in_default.ensures)

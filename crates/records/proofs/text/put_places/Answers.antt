@@ -4,11 +4,11 @@ use Rattle.records.proofs.Appending.{added}
 use Rattle.records.proofs.Figures.{ten_pos, places_more}
 use Rattle.records.proofs.text.put_places.Goals as goal
 
-pub nonzero-div-digit : goal.nonzero-div-digit
-nonzero-div-digit c = omega (arith, ten_pos (c.loop-place.place - 1), c.power-of-ten.ensures)
+pub nonzero_div-digit : goal.nonzero_div-digit
+nonzero_div-digit c = omega (arith, ten_pos (c.loop-place.place - 1), c.power_of_ten.ensures)
 
 pub loop-place-preserved : goal.loop-place-preserved
-loop-place-preserved c = (places_more _ _ _ _ _ (omega arith) c.power-of-ten.ensures c.push-reserved.ensures.items ∙ c.loop-place.invariant.0, omega arith, omega arith)
+loop-place-preserved c = (places_more _ _ _ _ _ (omega arith) c.power_of_ten.ensures c.push_reserved.ensures.items ∙ c.loop-place.invariant.0, omega arith, omega arith)
 
 pub returns : goal.returns
 returns c =

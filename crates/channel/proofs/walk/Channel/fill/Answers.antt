@@ -3,8 +3,8 @@ use Rattle.models.proofs.Room.{rows_few}
 use Rattle.channel.proofs.walk.Channel.fill.Goals as goal
 
 -- no row is written past the last
-pub overflow-add-self : goal.overflow-add-self
-overflow-add-self g c =
+pub overflow_add-self : goal.overflow_add-self
+overflow_add-self g c =
     let laws = g.met.M.EntropyModel in
     let model = c.args.self.now.model in
-    omega (arith, c.page-count.ensures.left, rows_few _ _ (laws.cuts model) (laws.fits model) g.met.M.Probability.BitArray.narrow)
+    omega (arith, c.page-count.ensures.left, rows_few _ _ (g.M.EntropyModel.cuts model) (laws.fits model) g.met.M.Probability.BitArray.narrow)

@@ -2,12 +2,12 @@ use Rattle.std.proofs.Common.{arith}
 use Rattle.models.proofs.Room.{rows_few}
 use Rattle.channel.proofs.walk.Channel.next.Goals as goal
 
-pub overflow-add-self : goal.overflow-add-self
-overflow-add-self g c =
+pub overflow_add-self : goal.overflow_add-self
+overflow_add-self g c =
     let laws = g.met.M.EntropyModel in
     let model = c.args.self.now.model in
     omega (
       arith,
-      c.in-ok-row.ensures.at.within,
-      rows_few _ _ (laws.cuts model) (laws.fits model) g.met.M.Probability.BitArray.narrow,
+      c.in_ok-row.ensures.at.within,
+      rows_few _ _ (g.M.EntropyModel.cuts model) (laws.fits model) g.met.M.Probability.BitArray.narrow,
     )
