@@ -9,7 +9,7 @@ use Rattle.models.proofs.Cuts.{span_fits, holds_some, holds_one, holds_bound}
 use Rattle.quantize.specs.Quantized.{quantized}
 use Rattle.quantize.specs.Starts.{quantized_cuts}
 use Rattle.uniform.specs.Uniform.{uniform}
-use Rattle.uniform.proofs.Even.{even_cuts}
+use Rattle.uniform.specs.EvenCuts.{even_cuts}
 use Rattle.channel.specs.Events.{rows_in, Event, asked, stepped, filled, rewound, retuned, handed_after, handed, tuning, heights_after, Untuned}
 use Rattle.histories.specs.Promises.{Kept, Opening, opened, means_after, EveryHistory, EveryUniformHistory}
 use Rattle.channel.specs.Rows.{Row, row_of, first_rows}

@@ -9,11 +9,11 @@ use Rattle.histories.proofs.Ends.{two_ends}
 use Rattle.histories.proofs.Histories.{every_history}
 use Rattle.histories.proofs.replay.replay.Goals as goal
 
-pub returns-in-err-log : goal.returns-in-err-log
-returns-in-err-log g c = record {
-  calls = IfOk-from_err c.from-residual.result _ c.from-residual.ensures.0;
-  succeeds = λ none. absurd (true≢false (sym (c.in-err-log.ensures.succeeds none)));
-  run = IfOk-from_err c.from-residual.result _ c.from-residual.ensures.0;
+pub returns-in_err-log : goal.returns-in_err-log
+returns-in_err-log g c = record {
+  calls = IfOk-from_err c.from_residual.result _ c.from_residual.ensures.0;
+  succeeds = λ none. absurd (true≢false (sym (c.in_err-log.ensures.succeeds none)));
+  run = IfOk-from_err c.from_residual.result _ c.from_residual.ensures.0;
   histories = every_history;
   ends = two_ends;
 }
@@ -27,13 +27,13 @@ returns g c =
     ∙ ap (λ (q : LeakyQuantizer g.row.S.Denot). means (g.S.Support.covered q.support) (h c.quantize.result.inner)) c.quantize.ensures.0
     ∙ ap (λ d. means e (h d)) c.quantize.ensures.1 in
     let start = ap (λ m. at m c.open-channel.result.row) first ∙ ap (at (means e (h c.args.distribution))) c.open-channel.ensures.1 in
-    let events = map (event_of g.Symbol.Symbol.whole g.Probability.BitArray.value h) (vec_items c.in-ok-log.log) in
+    let events = map (event_of g.S.Symbol.Symbol.whole g.S.Probability.BitArray.value h) (vec_items c.in_ok-log.log) in
     let last = c.run.new.channel in
     let end = at (means (g.S.Support.covered last.model.quantizer.support) (h last.model.inner)) last.row in
     record {
-      calls = c.in-ok-log.ensures.calls;
+      calls = c.in_ok-log.ensures.calls;
       succeeds = λ _. refl;
-      run = subst (λ (s : State). Run s events end) start c.in-ok-log.ensures.run;
+      run = subst (λ (s : State). Run s events end) start c.in_ok-log.ensures.run;
       histories = every_history;
       ends = two_ends;
     }

@@ -8,12 +8,12 @@ use Rattle.histories.proofs.Histories.{every_uniform_history}
 use Rattle.histories.proofs.Logged.{never_tuned}
 use Rattle.histories.proofs.replay.replay_uniform.Goals as goal
 
-pub returns-in-err-log : goal.returns-in-err-log
-returns-in-err-log g c = record {
-  calls = IfOk-from_err c.from-residual.result _ c.from-residual.ensures.0;
-  succeeds = λ none. absurd (true≢false (sym (c.in-err-log.ensures.succeeds none)));
-  run = IfOk-from_err c.from-residual.result _ c.from-residual.ensures.0;
-  untuned = IfOk-from_err c.from-residual.result _ c.from-residual.ensures.0;
+pub returns-in_err-log : goal.returns-in_err-log
+returns-in_err-log g c = record {
+  calls = IfOk-from_err c.from_residual.result _ c.from_residual.ensures.0;
+  succeeds = λ none. absurd (true≢false (sym (c.in_err-log.ensures.succeeds none)));
+  run = IfOk-from_err c.from_residual.result _ c.from_residual.ensures.0;
+  untuned = IfOk-from_err c.from_residual.result _ c.from_residual.ensures.0;
   histories = every_uniform_history;
 }
 
@@ -21,12 +21,12 @@ pub returns : goal.returns
 returns g c =
     let of = λ (u : UniformModel g.row.R.Denot). uniform (g.R.UniformRange.bits u.range) (g.R.UniformRange.count u.range) in
     let start = ap (λ u. at (of u) c.open-channel.result.row) c.open-channel.ensures.0 ∙ ap (at (of c.args.model)) c.open-channel.ensures.1 in
-    let events = map (event_of pos g.Probability.BitArray.value untunable) (vec_items c.in-ok-log.log) in
+    let events = map (event_of pos g.R.Probability.BitArray.value untunable) (vec_items c.in_ok-log.log) in
     let last = c.run.new.channel in
     record {
-      calls = c.in-ok-log.ensures.calls;
+      calls = c.in_ok-log.ensures.calls;
       succeeds = λ _. refl;
-      run = subst (λ (s : State). Run s events (at (of last.model) last.row)) start c.in-ok-log.ensures.run;
-      untuned = never_tuned _ _ (vec_items c.in-ok-log.log);
+      run = subst (λ (s : State). Run s events (at (of last.model) last.row)) start c.in_ok-log.ensures.run;
+      untuned = never_tuned _ _ (vec_items c.in_ok-log.log);
       histories = every_uniform_history;
     }

@@ -5,33 +5,33 @@ use Rattle.channel.specs.Steps.{at}
 use Rattle.histories.proofs.Logged.{calls_more, events_more}
 use Rattle.histories.proofs.replay.run.Goals as goal
 
-pub returns-in-err-apply : goal.returns-in-err-apply
-returns-in-err-apply g c = record {
-  calls = IfOk-from_err c.from-residual.result _ c.from-residual.ensures.0;
+pub returns-in_err-apply : goal.returns-in_err-apply
+returns-in_err-apply g c = record {
+  calls = IfOk-from_err c.from_residual.result _ c.from_residual.ensures.0;
   succeeds = λ none. absurd (omega (arith, c.loop-call-test.true, none));
-  run = IfOk-from_err c.from-residual.result _ c.from-residual.ensures.0;
+  run = IfOk-from_err c.from_residual.result _ c.from_residual.ensures.0;
 }
 
-pub returns-in-err-push : goal.returns-in-err-push
-returns-in-err-push g c = record {
-  calls = IfOk-from_err c.from-residual-in-err-push.result _ c.from-residual-in-err-push.ensures.0;
+pub returns-in_err-push : goal.returns-in_err-push
+returns-in_err-push g c = record {
+  calls = IfOk-from_err c.from_residual-in_err-push.result _ c.from_residual-in_err-push.ensures.0;
   succeeds = λ none. absurd (omega (arith, c.loop-call-test.true, none));
-  run = IfOk-from_err c.from-residual-in-err-push.result _ c.from-residual-in-err-push.ensures.0;
+  run = IfOk-from_err c.from_residual-in_err-push.result _ c.from_residual-in_err-push.ensures.0;
 }
 
 pub loop-call-preserved : goal.loop-call-preserved
 loop-call-preserved g c =
     let before = vec_items c.loop-call.log in
     let after = vec_items c.push.new.self in
-    let entry = c.in-ok-apply.field-0 in
-    let grown : after ≡ before ++ entry ∷ [] = c.in-ok-push.ensures.items in (
+    let entry = c.in_ok-apply.field-0 in
+    let grown : after ≡ before ++ entry ∷ [] = c.in_ok-push.ensures.items in (
       calls_more before after entry grown call_of c.args.calls.now c.loop-call.call-index c.call-item.result
-          c.loop-call-test.true c.call-item.is c.in-ok-apply.ensures.call c.loop-call.invariant.0,
-      events_more (event_of g.Symbol.Symbol.whole g.Probability.BitArray.value g.M.Tunable.heights) before after entry grown
+          c.loop-call-test.true c.call-item.is c.in_ok-apply.ensures.call c.loop-call.invariant.0,
+      events_more (event_of g.M.Symbol.Symbol.whole g.M.Probability.BitArray.value g.M.Tunable.heights) before after entry grown
           (at (g.M.EntropyModel.meaning c.args.channel.now.model) c.args.channel.now.row)
           (at (g.M.EntropyModel.meaning c.loop-call.channel.model) c.loop-call.channel.row)
           (at (g.M.EntropyModel.meaning c.apply.new.channel.model) c.apply.new.channel.row)
-          c.loop-call.invariant.1 c.in-ok-apply.ensures.step,
+          c.loop-call.invariant.1 c.in_ok-apply.ensures.step,
     )
 
 pub returns : goal.returns
