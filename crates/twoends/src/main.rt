@@ -111,7 +111,7 @@ macro_rules! mixed {
         let high: $symbol = 6;
         let quantile: $probability = 200;
         let Ok(quantizer) = LeakyQuantizer::<$support>::new(0, high, 8) else {
-            return Err("the make is refused".into());
+            return Err(anyhow!("the make is refused"));
         };
         let page = Slots { symbols: 4, starts: 5, lengths: 3, symbol: high, probability: quantile };
         let none = Slots { symbols: 2, starts: 0, lengths: 2, symbol: high, probability: quantile };
@@ -186,7 +186,7 @@ fn makes(rt: &HostRuntime) -> anyhow::Result<()> {
 macro_rules! even {
     ($rt:expr, $who:expr, $range:ty, $probability:ty) => {{
         let Ok(model) = UniformModel::<$range>::new(16, 3) else {
-            return Err("the uniform model is refused".into());
+            return Err(anyhow!("the uniform model is refused"));
         };
         let other: $probability = 7;
         let page = Slots { symbols: 2, starts: 2, lengths: 3, symbol: 9usize, probability: other };

@@ -12,13 +12,13 @@ loop-i-preserved g c =
     let i = c.loop-i.i in
     let inv = c.loop-i.invariant in
     let read = c.index-symbols-i in
-    let r = c.encode-one-start.result in (
+    let r = c.encode_one-start.result in (
       record {
         each = λ k d h.
             pairs_more (λ k s l. EncodesTo m (g.N.Wide.whole (get_or symbols k d)) s l) i _ _ r.0 r.1
             (omega (arith, inv.1.long)) (omega (arith, inv.2.long))
             (λ k h. inv.0.each k d h)
-            (subst (λ x. EncodesTo m (g.N.Wide.whole x) r.0 r.1) (get_or_read symbols i read.result (omega arith) read.is d) c.encode-one-start.ensures)
+            (subst (λ x. EncodesTo m (g.N.Wide.whole x) r.0 r.1) (get_or_read symbols i read.result (omega arith) read.is d) c.encode_one-start.ensures)
             k h;
       },
       kept_more i _ _ _ inv.1,

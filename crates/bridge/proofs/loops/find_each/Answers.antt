@@ -11,12 +11,12 @@ loop-i-preserved g c =
     let quantiles = c.args.quantiles.now in
     let i = c.loop-i.i in
     let inv = c.loop-i.invariant in
-    let r = c.find-one-symbol.result in (
+    let r = c.find_one-symbol.result in (
       record {
         each =
             rows_more (λ k n s l. SearchesTo wide.whole wide.least wide.most m (get_or quantiles k 0) n s l) i _ _ _ r.0 r.1 r.2
             (omega (arith, inv.1.long)) (omega (arith, inv.2.long)) (omega (arith, inv.3.long))
-            inv.0.each c.find-one-symbol.ensures;
+            inv.0.each c.find_one-symbol.ensures;
       },
       kept_more i _ _ _ inv.1,
       kept_more i _ _ _ inv.2,

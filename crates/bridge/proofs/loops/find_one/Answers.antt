@@ -4,10 +4,10 @@ use Rattle.bridge.proofs.Entries.{as_numbers}
 use Rattle.bridge.proofs.loops.find_one.Goals as goal
 
 -- a quantile that takes more than the width is 2 ^ P or more
-pub returns-in-default : goal.returns-in-default
-returns-in-default g c =
+pub returns-in_default : goal.returns-in_default
+returns-in_default g c =
     let laws = g.met.M.EntropyModel in
-    beyond (omega (arith, c.in-default.ensures, pow_mono (laws.fits c.args.model.now)), refl) refl
+    beyond (omega (arith, c.in_default.ensures, pow_mono (laws.fits c.args.model.now)), refl) refl
 
 -- the buffers have no number for the symbol
 pub returns-in-None : goal.returns-in-None

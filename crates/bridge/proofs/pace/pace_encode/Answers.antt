@@ -12,7 +12,7 @@ loop-i-preserved g c =
     let m = means c.args.model.now.quantizer.support.extent (g.D.Distribution.height c.args.model.now.inner) in
     let symbols = c.args.symbols.now in
     let i = c.loop-i.i in
-    let r = c.interval-of-start.result in
+    let r = c.interval_of-start.result in
     let z = get_or symbols i (pos 0) in
     let kept : SFits w32 z = search rules in
     record {
@@ -20,7 +20,7 @@ loop-i-preserved g c =
           pairs_more (λ k s l. EncodesTo m (get_or symbols k d) s l) i _ _ r.0 r.1
           (omega (arith, c.loop-i.auto.starts)) (omega (arith, c.loop-i.auto.lengths))
           (λ k h. c.loop-i.invariant.each k d h)
-          (subst (λ (x : ℤ). EncodesTo m x r.0 r.1) (to_z-of_z w32 z kept ∙ get_or_default symbols i (pos 0) d (omega arith)) c.interval-of-start.ensures)
+          (subst (λ (x : ℤ). EncodesTo m x r.0 r.1) (to_z-of_z w32 z kept ∙ get_or_default symbols i (pos 0) d (omega arith)) c.interval_of-start.ensures)
           k h;
     }
 

@@ -11,14 +11,14 @@ loop-i-preserved g c =
     let m = means c.args.model.now.quantizer.support.extent (g.D.Distribution.height c.args.model.now.inner) in
     let quantiles = c.args.quantiles.now in
     let i = c.loop-i.i in
-    let r = c.row-of-symbol.result in
+    let r = c.row_of-symbol.result in
     let kept : SFits w32 r.0 = search rules in
     record {
       each =
           rows_more {N = ℤ} (λ k n s l. SearchesTo {N = ℤ} itself (negsuc 2147483647) (pos 2147483647) m (get_or quantiles k 0) n s l) i _ _ _ _ r.1 r.2
           (omega (arith, c.loop-i.auto.symbols)) (omega (arith, c.loop-i.auto.starts)) (omega (arith, c.loop-i.auto.lengths))
           c.loop-i.invariant.each
-          (subst (λ (z : ℤ). SearchesTo {N = ℤ} itself (negsuc 2147483647) (pos 2147483647) m (get_or quantiles i 0) z r.1 r.2) (sym (to_z-of_z w32 r.0 kept)) c.row-of-symbol.ensures);
+          (subst (λ (z : ℤ). SearchesTo {N = ℤ} itself (negsuc 2147483647) (pos 2147483647) m (get_or quantiles i 0) z r.1 r.2) (sym (to_z-of_z w32 r.0 kept)) c.row_of-symbol.ensures);
     }
 
 pub returns : goal.returns

@@ -4,8 +4,8 @@ use Rattle.std.proofs.lemmas.Bool.{cases_lt}
 use Rattle.models.proofs.Room.{rows_few}
 use Rattle.bridge.proofs.pace.pace_rows.Goals as goal
 
-pub overflow-add-rows : goal.overflow-add-rows
-overflow-add-rows g c =
+pub overflow_add-rows : goal.overflow_add-rows
+overflow_add-rows g c =
     let laws = g.met.M.EntropyModel in
     let model = c.loop-count.channel.model in
     omega (

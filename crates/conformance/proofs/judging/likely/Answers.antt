@@ -7,8 +7,8 @@ use Rattle.conformance.proofs.judging.likely.Goals as goal
 
 pub returns : goal.returns
 returns g c =
-    let came = c.f64-to-bits-with-nan.ensures in (
-      λ e. record { share = c.floating-point-probability.result; likely = c.floating-point-probability.ensures; same = let e' = eqb-true _ _ e in cc },
-      λ s. let one = likely_one _ _ _ _ c.floating-point-probability.ensures s.likely in
+    let came = c.f64_to_bits_with_nan.ensures in (
+      λ e. record { share = c.floating_point_probability.result; likely = c.floating_point_probability.ensures; same = let e' = eqb-true _ _ e in cc },
+      λ s. let one = likely_one _ _ _ _ c.floating_point_probability.ensures s.likely in
           eq-eqb _ _ (came ∙ (ap (to_bits binary64) one ∙ s.same)),
     )

@@ -11,9 +11,9 @@ returns-in-Ok g c =
     let most = g.Symbol.Symbol.most in
     let made = c.in-Ok.ensures in
     let low = c.in-Some.ensures in
-    let high = c.in-Some-from-whole.ensures in
+    let high = c.in-Some-from_whole.ensures in
     let el : g.Symbol.Symbol.whole c.in-Some.min ≡ c.args.model.min = search rules in
-    let eh : g.Symbol.Symbol.whole c.in-Some-from-whole.max ≡ c.args.model.max = search rules in
+    let eh : g.Symbol.Symbol.whole c.in-Some-from_whole.max ≡ c.args.model.max = search rules in
     let kept = c.quantize.ensures in
     let same :
     means (g.S.Support.covered c.quantize.result.quantizer.support) (g.D.Distribution.height c.quantize.result.inner)

@@ -11,9 +11,9 @@ pub returns-in-Err : goal.returns-in-Err
 returns-in-Err c =
     refused c.number.result (told number_of _ c.in-Err.fault _ c.in-Err.ensures c.number.ensures) (to_z_pos w32 c.number.result (omega arith)) refl
 
-pub returns-in-Ok-quantile-function : goal.returns-in-Ok-quantile-function
-returns-in-Ok-quantile-function c =
+pub returns-in-Ok-quantile_function : goal.returns-in-Ok-quantile_function
+returns-in-Ok-quantile_function c =
     let made = c.in-Ok.ensures in
-    let found = c.in-Ok-quantile-function in
+    let found = c.in-Ok-quantile_function in
     answered (ap (option_map number_of) made.0) refl
     (searches_as pos _ _ c.args.quantile (found.symbol, found.start, found.length) _ made.1 refl found.ensures)

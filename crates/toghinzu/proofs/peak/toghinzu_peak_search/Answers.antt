@@ -12,9 +12,9 @@ pub returns-in-Err : goal.returns-in-Err
 returns-in-Err c =
     refused c.number.result (told number_of _ c.in-Err.fault _ c.in-Err.ensures c.number.ensures) (to_z_pos w32 c.number.result (omega arith)) refl
 
-pub returns-in-Ok-quantile-function : goal.returns-in-Ok-quantile-function
-returns-in-Ok-quantile-function c =
-    let found = c.in-Ok-quantile-function in
+pub returns-in-Ok-quantile_function : goal.returns-in-Ok-quantile_function
+returns-in-Ok-quantile_function c =
+    let found = c.in-Ok-quantile_function in
     let made = c.in-Ok.ensures in
     let kept : SFits w32 found.symbol = search rules in
     let back = to_z-of_z w32 found.symbol kept in

@@ -11,9 +11,9 @@ second : (a b : Bool) → b ≡ false → (a && b) ≡ false
 second true b e = e
 second false b e = refl
 
-pub invariant-of-result : goal.invariant-of-result
+pub invariant_of-result : goal.invariant_of-result
 unfolding of_bits
-invariant-of-result c = (c.if-height.true, (c.if-height-2.true, tt))
+invariant_of-result c = (c.if-height.true, (c.if-height-2.true, tt))
 
 pub returns : goal.returns
 unfolding of_bits
