@@ -66,7 +66,7 @@ pub fn judge<M: EncoderModel + DecoderModel + IterableEntropyModel>(
     model: &M,
     claim: Claim,
 ) -> Verdict
-    ensures { Judged Symbol-as-Symbol.least Symbol-as-Symbol.most Probability-as-BitArray.width (M.EntropyModel.meaning model.now) claim result }
+    ensures { Judged M.Symbol.Symbol.least M.Symbol.Symbol.most M.Probability.BitArray.width (M.EntropyModel.meaning model.now) claim result }
 {
     let agrees = match claim {
         Claim::Encoded(symbol, said) => {

@@ -34,7 +34,7 @@ fn of_uniform(model: Uniform, claim: Claim) -> Verdict
 }
 
 fn on_range<R: UniformRange>(model: Uniform, claim: Claim) -> Verdict
-    ensures { UniformTried Probability-as-BitArray.width model claim result }
+    ensures { UniformTried R.Probability.BitArray.width model claim result }
 {
     match UniformModel::<R>::new(model.precision, model.range) {
         Ok(made) => judge(&made, claim),
@@ -76,7 +76,7 @@ fn on_support<S: Support, D: Inverse + Drop>(
     distribution: D,
     claim: Claim,
 ) -> Verdict
-    ensures { SupportTried Symbol-as-Symbol.least Symbol-as-Symbol.most Probability-as-BitArray.width (D.Distribution.height distribution) model claim result }
+    ensures { SupportTried S.Symbol.Symbol.least S.Symbol.Symbol.most S.Probability.BitArray.width (D.Distribution.height distribution) model claim result }
 {
     let Some(min) = S::Symbol::from_whole(model.min) else {
         return Verdict::Misfits;

@@ -12,4 +12,4 @@ returns-in_default g c =
 -- the buffers have no number for the symbol
 pub returns-in-None : goal.returns-in-None
 returns-in-None g c =
-    unfit _ (as_numbers g.Symbol.Symbol.whole g.Probability.BitArray.value _ _ _ _ c.in-Some.ensures.1 c.in-Ok.ensures) c.in-None.ensures refl
+    unfit _ (as_numbers g.M.Symbol.Symbol.whole g.M.Probability.BitArray.value _ _ _ _ c.in-Some.ensures.1 c.in-Ok.ensures) c.in-None.ensures refl

@@ -11,13 +11,13 @@ returns-then-agrees g c =
     elim c.match-claim.branch [
       | in-Encoded+in-Some w ↦
           let told = w.in-Some.ensures in
-          let e : g.Symbol.Symbol.whole w.in-Some.symbol ≡ w.in-Encoded.symbol = search rules in
+          let e : g.M.Symbol.Symbol.whole w.in-Some.symbol ≡ w.in-Encoded.symbol = search rules in
           let s = w.encoded-agrees.ensures.0 (sym w.agrees-is ∙ c.if-agrees.true) in
           subst (Stands m) (sym w.in-Encoded.is) (subst (λ (k : ℤ). Encodes (λ n. n) m k w.in-Encoded.said) e s)
       | in-Searched+in-Some-from-u64 w ↦ search rules
       | in-Likely+in-Some-from-whole w ↦
           let told = w.in-Some-from_whole.ensures in
-          let e : g.Symbol.Symbol.whole w.in-Some-from_whole.symbol ≡ w.in-Likely.symbol = search rules in
+          let e : g.M.Symbol.Symbol.whole w.in-Some-from_whole.symbol ≡ w.in-Likely.symbol = search rules in
           let s = w.likely-agrees.ensures.0 (sym w.agrees-is ∙ c.if-agrees.true) in
           subst (Stands m) (sym w.in-Likely.is) (subst (λ (k : ℤ). LikelyBits m k w.in-Likely.said) e s)
     ]
