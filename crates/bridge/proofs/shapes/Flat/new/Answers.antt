@@ -13,7 +13,7 @@ second false b e = refl
 
 pub invariant_of-result : goal.invariant_of-result
 unfolding of_bits
-invariant_of-result c = (c.if-height.true, (c.if-height-2.true, tt))
+invariant_of-result c = record { from = c.if-height.true; to = c.if-height-2.true }
 
 pub returns : goal.returns
 unfolding of_bits
