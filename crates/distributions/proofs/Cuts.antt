@@ -1,5 +1,5 @@
 -- Orders of floats and of what a cast leaves of them. Assumes nothing.
-use Rattle.std.proofs.Common.{◌≡◌, ℕ, ◌+◌, ◌-◌, ◌*◌, ◌/◌, ◌^◌, ◌<◌, ◌≤◌, min, Bool, true, false, cond, T, ℤ, pos, sym, refl, ◌∙◌, subst, inl, inr, true≢false, le_trans, mul-le-mul_right, div-mul-le_self, arith, lit<, lit≤}
+use Rattle.std.proofs.Common.{◌≡◌, ℕ, ◌+◌, ◌-◌, ◌*◌, ◌/◌, ◌^◌, ◌<◌, ◌≤◌, min, true, false, T, pos, sym, refl, ◌∙◌, subst, inl, inr, true≢false, le_trans, mul-le-mul_right, div-mul-le_self, arith, lit<}
 use native.Mathlib.Nat.{min-le_left}
 use lib.Ieee.{Float, nan, inf, fin, Format, up, down, le, lt, of_int, to_unsigned, fits, prec, is_nan, sub, add, neg}
 use lib.Ieee.Scale.{finite}

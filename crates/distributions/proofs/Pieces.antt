@@ -1,12 +1,12 @@
 -- The two searches of a profile: the piece of a distance, and the last knot of at most a value. Assumes nothing.
-use Rattle.std.proofs.Common.{◌≡◌, ℕ, ◌+◌, ◌-◌, ◌*◌, ◌/◌, ◌^◌, ◌<◌, ◌≤◌, true, false, cond, ◌||◌, T, ◌⊎◌, List, length, get_or, pos, negsuc, ◌≤ℤ◌, sym, refl, ◌∙◌, subst, inl, inr, true≢false, le_trans, le_refl, lt_of_lt_of_le, lt_irrefl, div-lt_iff_lt-mul, mul-le-mul, div-mul-le_self, arith, lit<, lit≤}
-use lib.Ieee.{Float, binary64, fin, le, lt, sub, div, of_int, to_unsigned, fits, is_nan}
+use Rattle.std.proofs.Common.{◌≡◌, ℕ, ◌+◌, ◌*◌, ◌/◌, ◌^◌, ◌<◌, ◌≤◌, true, false, cond, ◌||◌, T, ◌⊎◌, List, length, get_or, pos, negsuc, ◌≤ℤ◌, sym, refl, ◌∙◌, subst, inl, inr, true≢false, le_trans, le_refl, lt_of_lt_of_le, lt_irrefl, div-lt_iff_lt-mul, mul-le-mul, div-mul-le_self, arith, lit≤}
+use lib.Ieee.{Float, binary64, le, lt, sub, div, of_int, to_unsigned, fits, is_nan}
 use lib.Ieee.Scale.{finite}
 use Rattle.std.proofs.lemmas.Bool.{cases_Bool, cases_lt, cond-true, cond-false, or_left, or_right, or_from}
 use Rattle.rounding.specs.Fractions.{nought, one, power}
 use Rattle.rounding.proofs.Laws.{order_laws}
 use Rattle.rounding.proofs.Order.{finite_number, right_number, so}
-use Rattle.distributions.specs.Greatest.{Greatest, greatest_only}
+use Rattle.distributions.specs.Greatest.{greatest_only}
 use Rattle.distributions.specs.Tables.{Parts, Rising, Counted, Wide}
 use Rattle.distributions.specs.Profile.{whole, end, reach, knot, along, line_at, piece_at, last_up_to, height_at}
 use Rattle.distributions.specs.ProfileLaws.{whole_rises, whole_finite, knots_rise, start_finite}

@@ -2,15 +2,14 @@
 -- Assumes nothing.
 use Rattle.std.specs.Prelude.{◌≡◌, ℕ, zero, suc, ◌+◌, ◌-◌, ◌*◌, ◌^◌, ◌<◌, ◌≤◌, Bool, true, false, cond, ◌||◌, T, ◌⊎◌, List, length, ℤ, pos, negsuc, ◌≤ℤ◌, ◌≢◌, is_nan, slice_index, refl, Float}
 use Rattle.std.proofs.Common.{sym, subst, ◌∙◌, true≢false, inl, inr, le_refl, le_trans, add-zero, zero-mul, mul-le-mul, eq-zero-or-pos, lt_irrefl, lt_of_lt_of_le, arith, lit≤}
-use Rattle.std.specs.Float.Ieee.{binary64, le, lt, add, sub, mul, div, of_int, fits}
+use Rattle.std.specs.Float.Ieee.{binary64, le, lt, sub, mul, div, of_int, fits}
 use Rattle.std.specs.Float.Ieee.Scale.{finite}
 use Rattle.std.specs.Float.Ieee.Fits.{sub-fits, of_int-fits}
 use Rattle.std.proofs.lemmas.Int.{ints}
 use Rattle.std.proofs.lemmas.Bool.{cond_both, cases_order, or_parts, or_cases}
 use Rattle.models.specs.Heights.{InReach, Lawful}
 use Rattle.rounding.specs.Fractions.{nought, one, power}
-use Rattle.rounding.specs.Order.{Between, lesser}
-use Rattle.rounding.specs.Wholes.{Within}
+use Rattle.rounding.specs.Order.{Between}
 use Rattle.rounding.proofs.Laws.{order_laws, sum_laws, product_laws, quotient_laws, whole_laws, range_laws}
 use Rattle.rounding.proofs.Order.{finite_number, right_number}
 use Rattle.rounding.proofs.Quotients.{above_zero}

@@ -1,5 +1,5 @@
 -- The figures of the rules, in one statement. Assumes nothing.
-use Rattle.std.specs.Prelude.{◌≡◌, ℕ, ◌<◌, ◌≤◌, [], ◌∷◌, ℤ, pos, negsuc, ◌+ℤ◌, Some, None, Ok, Err, Option, Result}
+use Rattle.std.specs.Prelude.{◌≡◌, ℕ, ◌<◌, ◌≤◌, [], ◌∷◌, ℤ, pos, negsuc, ◌+ℤ◌, Some, None, Ok, Err, Option}
 use Rattle.models.specs.Answers.{Encodes, Searches}
 use Rattle.models.specs.Faults.{number_of}
 use Rattle.models.specs.Heights.{Height, Lawful}

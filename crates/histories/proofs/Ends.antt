@@ -1,11 +1,11 @@
 -- Two ends of a line: what one encodes, the other finds. Assumes nothing.
-use Rattle.std.proofs.Common.{◌≡◌, ℕ, suc, ◌+◌, ◌-◌, ◌^◌, ◌<◌, ◌≤◌, ℤ, pos, ◌+ℤ◌, Some, Ok, sym, ap, ◌∙◌, subst, arith}
-use Rattle.models.specs.Heights.{Height, Lawful}
+use Rattle.std.proofs.Common.{◌≡◌, ℕ, suc, ◌+◌, ◌-◌, ◌<◌, ◌≤◌, ℤ, pos, ◌+ℤ◌, Some, Ok, sym, ap, ◌∙◌, subst, arith}
+use Rattle.models.specs.Heights.{Height}
 use Rattle.models.specs.Meaning.{Meaning, Interval, Holds}
 use Rattle.quantize.specs.Quantized.{quantized, start_of}
 use Rattle.quantize.proofs.Agreement.{starts_agree}
 use Rattle.channel.specs.Events.{heights_after}
-use Rattle.histories.specs.Promises.{Opening, opened, means_after, TwoEnds}
+use Rattle.histories.specs.Promises.{opened, means_after, TwoEnds}
 use Rattle.channel.specs.Rows.{Row, row_of}
 use Rattle.histories.proofs.Histories.{every_history, lawful_after}
 

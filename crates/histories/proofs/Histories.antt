@@ -1,6 +1,6 @@
 -- By induction over the calls: the walk stands at the first rows of the model, and the model is the one of the last retune.
 -- Assumes nothing.
-use Rattle.std.proofs.Common.{◌≡◌, ℕ, zero, suc, ◌+◌, ◌-◌, ◌^◌, ◌<◌, ◌≤◌, List, [], ◌∷◌, ◌++◌, length, ℤ, Some, None, Ok, Err, Option, Result, unwrap_or, sym, refl, ap, ◌∙◌, subst, arith}
+use Rattle.std.proofs.Common.{◌≡◌, ℕ, suc, ◌<◌, ◌≤◌, List, [], ◌∷◌, ◌++◌, length, ℤ, Some, None, Ok, Err, Option, Result, unwrap_or, sym, refl, ap, ◌∙◌, subst, arith}
 use Rattle.models.specs.Answers.{Encodes, Lists, Searches}
 use Rattle.models.specs.Heights.{Height, Lawful}
 use Rattle.models.specs.Meaning.{Meaning, Partition, Holds}

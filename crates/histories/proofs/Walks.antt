@@ -1,5 +1,5 @@
 -- Rows as whole numbers: what a call answers is the model's own row, and what is handed out is the first of them. Assumes nothing.
-use Rattle.std.proofs.Common.{◌≡◌, ℕ, zero, suc, ◌+◌, ◌-◌, ◌<◌, ◌≤◌, List, [], ◌∷◌, ◌++◌, length, sym, refl, ap, ◌∙◌, subst, append_assoc, append-nil, add-zero, add-suc, add-one, arith, length-append}
+use Rattle.std.proofs.Common.{◌≡◌, ℕ, zero, suc, ◌+◌, ◌-◌, ◌<◌, [], ◌∷◌, ◌++◌, length, sym, refl, ap, ◌∙◌, append_assoc, append-nil, add-zero, add-suc, add-one, arith, length-append}
 use Rattle.models.specs.Answers.{IsRow}
 use Rattle.models.specs.Meaning.{Meaning}
 use Rattle.channel.specs.Events.{Buffers, row_at, rows_in}

@@ -1,6 +1,6 @@
 -- What follows from the law of a model alone: the starts never fall, every quantile lies in one interval, and in one only.
 -- Assumes nothing.
-use Rattle.std.proofs.Common.{◌≡◌, ℕ, zero, suc, ◌+◌, ◌-◌, ◌%◌, ◌^◌, ◌<◌, ◌≤◌, ◌⊎◌, sym, subst, inl, inr, ⊎_elim, add-zero, add-suc, mod-eq_of_lt, add-sub_of_le, arith, pow_mono}
+use Rattle.std.proofs.Common.{◌≡◌, ℕ, zero, suc, ◌+◌, ◌-◌, ◌%◌, ◌^◌, ◌<◌, ◌≤◌, sym, subst, inl, inr, add-zero, add-suc, mod-eq_of_lt, add-sub_of_le, arith, pow_mono}
 use Rattle.std.proofs.lemmas.Bool.{cases_lt, cases_order}
 use Rattle.models.specs.Meaning.{Meaning, Partition, Interval, Holds}
 

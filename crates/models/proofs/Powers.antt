@@ -1,5 +1,5 @@
 -- A power of two as a shift makes it, and as a remainder. Assumes nothing.
-use Rattle.std.proofs.Common.{◌≡◌, ℕ, ◌+◌, ◌-◌, ◌*◌, ◌%◌, ◌^◌, ◌<◌, ◌≤◌, sym, refl, ap, ◌∙◌, mod-eq_of_lt, one-mul, sub-add_cancel, arith, pow-add}
+use Rattle.std.proofs.Common.{◌≡◌, ℕ, ◌+◌, ◌-◌, ◌*◌, ◌%◌, ◌^◌, ◌<◌, ◌≤◌, sym, ap, ◌∙◌, mod-eq_of_lt, one-mul, sub-add_cancel, pow-add}
 use native.Mathlib.Nat.{mul-mod_left}
 use lib.Pow.{pow-lt}
 

@@ -1,5 +1,5 @@
 -- A model has at most 2 ^ 32 rows, so that every row has its index. Assumes nothing.
-use Rattle.std.proofs.Common.{ℕ, suc, ◌^◌, ◌<◌, ◌≤◌, arith, pow_mono}
+use Rattle.std.proofs.Common.{ℕ, suc, ◌^◌, ◌≤◌, arith, pow_mono}
 use Rattle.models.specs.Meaning.{Meaning, Partition}
 use Rattle.models.proofs.Cuts.{span_fits}
 

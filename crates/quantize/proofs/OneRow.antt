@@ -1,5 +1,5 @@
 -- A bracket of one row is the row that holds the quantile. Assumes nothing.
-use Rattle.std.proofs.Common.{◌≡◌, ℕ, suc, ◌+◌, ◌<◌, ◌≤◌, ◌∙◌, subst, add-one, arith}
+use Rattle.std.proofs.Common.{ℕ, ◌<◌, ◌≤◌, subst, add-one, arith}
 use Rattle.models.specs.Meaning.{Meaning, Holds}
 use Rattle.quantize.specs.Brackets.{Bracket}
 

@@ -1,21 +1,20 @@
 -- The starts of a quantized distribution cut [0, 2 ^ bits): from the two laws of its heights, and from what rounding keeps of the
 -- order. Assumes nothing.
-use Rattle.std.specs.Prelude.{◌≡◌, ℕ, zero, suc, ◌+◌, ◌-◌, ◌^◌, ◌<◌, ◌≤◌, true, false, ℤ, pos, negsuc, ◌+ℤ◌, ◌≤ℤ◌, nat_le, refl, Float}
-use Rattle.std.proofs.Common.{sym, subst, inl, inr, arith, pow_mono}
-use Rattle.std.specs.Float.{fin, binary64}
+use Rattle.std.specs.Prelude.{◌≡◌, ℕ, zero, suc, ◌+◌, ◌^◌, ◌<◌, ◌≤◌, true, false, ℤ, pos, negsuc, ◌+ℤ◌, ◌≤ℤ◌, nat_le, refl, Float}
+use Rattle.std.proofs.Common.{inl, inr, arith, pow_mono}
 use Rattle.std.specs.Float.Ieee.{le}
 use Rattle.std.proofs.lemmas.Int.{ints}
 use Rattle.std.proofs.lemmas.Bool.{cases_lt, cond-true, cond-false, le-leb, lt-leb}
 use Rattle.models.specs.Heights.{Height, InReach, Lawful}
-use Rattle.models.specs.Meaning.{Meaning, Partition}
+use Rattle.models.specs.Meaning.{Partition}
 use Rattle.rounding.specs.Fractions.{nought, power}
 use Rattle.rounding.specs.Order.{Between}
 use Rattle.rounding.specs.Weights.{share, weighed, Height as Fraction}
 use Rattle.rounding.proofs.Cuts.{share_short}
-use Rattle.rounding.specs.Wholes.{half_below, Within}
+use Rattle.rounding.specs.Wholes.{half_below}
 use Rattle.rounding.proofs.Order.{yes}
 use Rattle.rounding.proofs.Weights.{weighed_bounded, weighed_rises}
-use Rattle.rounding.proofs.Wholes.{half_fits, half_on_line, half_rises, within_more}
+use Rattle.rounding.proofs.Wholes.{half_fits, half_on_line, half_rises}
 use Rattle.quantize.specs.Quantized.{free_weight_of, start_of, quantized}
 
 -- half a step below a symbol is where the laws of heights hold

@@ -1,10 +1,10 @@
 -- The whole part of a float by one sum: from 2 ^ 52 to 2 ^ 53 the floats are the whole numbers, so a sum that lands there has lost
 -- its fraction, and is off by less than one. Assumes nothing.
-use Rattle.std.proofs.Common.{◌≡◌, ℕ, zero, suc, ◌+◌, ◌-◌, ◌*◌, ◌/◌, ◌%◌, ◌^◌, ◌<◌, ◌≤◌, min, Bool, true, false, cond, ◌&&◌, T, eqb, ltb, leb, ◌⊎◌, ℤ, pos, negsuc, sym, refl, ap, ◌∙◌, subst, inl, inr, suc-le-suc, zero-le, le_trans, le_of_eq, mul-le-mul_right, zero-lt-suc, div-lt_iff_lt-mul, add-mul, le-div_iff_mul-le, zero-mul, mul-one, div-one, arith, lit<, le→leb, ltb→lt, lt→ltb, pow_mono}
+use Rattle.std.proofs.Common.{◌≡◌, ℕ, zero, suc, ◌+◌, ◌-◌, ◌*◌, ◌/◌, ◌%◌, ◌^◌, ◌<◌, ◌≤◌, min, Bool, true, false, ◌&&◌, T, eqb, ltb, leb, ℤ, pos, negsuc, sym, refl, ap, ◌∙◌, subst, inl, inr, suc-le-suc, zero-le, le_trans, le_of_eq, mul-le-mul_right, zero-lt-suc, div-lt_iff_lt-mul, add-mul, le-div_iff_mul-le, zero-mul, mul-one, div-one, arith, lit<, le→leb, ltb→lt, lt→ltb, pow_mono}
 use native.Mathlib.Nat.{mod-one}
 use Rattle.std.proofs.lemmas.Bool.{cases_lt}
 use lib.Ieee.{Float, nan, inf, fin, binary64, low, emax, up, down, of_int, add, sub, to_unsigned, to_signed, whole, in_signed, le, lt, fits}
-use lib.Ieee.Fits.{down_pos, of_int-fits, add-fits, and_i, and_l, and_r, eq→eqb}
+use lib.Ieee.Fits.{down_pos, of_int-fits, add-fits, and_l, and_r, eq→eqb}
 use lib.Ieee.Positive.{den, den_pos}
 use lib.Ieee.Scale.{finite}
 use Rattle.rounding.specs.Fractions.{plus, less, Under, nought, one, power}

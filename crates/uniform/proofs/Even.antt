@@ -1,8 +1,8 @@
 -- The law of the uniform model, and the row that a quotient finds. Assumes nothing.
-use Rattle.std.proofs.Common.{◌≡◌, ℕ, suc, ◌+◌, ◌-◌, ◌*◌, ◌/◌, ◌^◌, ◌<◌, ◌≤◌, ltb, mul-le-mul_right, suc-mul, div-mul-le_self, arith, rules}
+use Rattle.std.proofs.Common.{◌≡◌, ℕ, suc, ◌-◌, ◌*◌, ◌/◌, ◌^◌, ◌<◌, ◌≤◌, ltb, mul-le-mul_right, suc-mul, div-mul-le_self, arith}
 use native.Mathlib.Nat.{lt-div-mul-add}
 use Rattle.std.proofs.lemmas.Bool.{cond-true, cond-false, lt-ltb, le-ltb}
-use Rattle.models.specs.Meaning.{Meaning, Partition, Holds}
+use Rattle.models.specs.Meaning.{Partition, Holds}
 use Rattle.uniform.specs.Uniform.{uniform}
 use Rattle.uniform.specs.EvenCuts.{even_cuts}
 

@@ -1,4 +1,4 @@
-use Rattle.std.proofs.Common.{get_or, ℤ, sym, ap, subst, arith}
+use Rattle.std.proofs.Common.{get_or, subst, arith}
 use Rattle.std.proofs.lemmas.List.{get_or_read}
 use Rattle.channel.proofs.Pages.{kept_more}
 use Rattle.bridge.specs.Entries.{EncodesTo}

@@ -1,4 +1,4 @@
-use Rattle.std.proofs.Common.{◌≡◌, length, ℤ}
+use Rattle.std.proofs.Common.{ℤ}
 use Rattle.channel.specs.Steps.{itself}
 use Rattle.quantize.specs.Extents.{means}
 use Rattle.bridge.specs.Entries.{Intervals}

@@ -1,4 +1,4 @@
-use Rattle.std.proofs.Common.{◌≡◌, ◌+◌, ap, ◌∙◌, subst, add_assoc, arith}
+use Rattle.std.proofs.Common.{◌≡◌, ap, ◌∙◌, subst, add_assoc, arith}
 use Rattle.channel.specs.Pages.{KeptFrom, Written}
 use Rattle.channel.proofs.Pages.{kept_more, written_more}
 use Rattle.models.proofs.Room.{rows_few}

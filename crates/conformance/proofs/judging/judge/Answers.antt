@@ -1,6 +1,6 @@
 -- Each way to a judgement that agrees: by what its call decides, at the number that the claim has.
-use Rattle.std.proofs.Common.{◌≡◌, ℕ, ℤ, Ok, sym, ◌∙◌, subst, rules}
-use Rattle.models.specs.Answers.{Encodes, Searches}
+use Rattle.std.proofs.Common.{◌≡◌, ℤ, sym, ◌∙◌, subst, rules}
+use Rattle.models.specs.Answers.{Encodes}
 use Rattle.conformance.specs.Claims.{LikelyBits, Stands}
 use Rattle.conformance.proofs.judging.judge.Goals as goal
 use Rattle.conformance.proofs.judging.judge.Goals.{in-Encoded+in-Some, in-Searched+in-Some-from_u64, in-Likely+in-Some-from_whole}

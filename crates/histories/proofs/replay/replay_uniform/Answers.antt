@@ -1,4 +1,4 @@
-use Rattle.std.proofs.Common.{◌≡◌, map, pos, vec_items, sym, refl, ap, ◌∙◌, subst, true≢false}
+use Rattle.std.proofs.Common.{map, pos, vec_items, sym, refl, ap, ◌∙◌, subst, true≢false}
 use Rattle.std.proofs.lemmas.Result.{IfOk-from_err}
 use Rattle.uniform.specs.Uniform.{uniform}
 use Rattle.uniform.specs.declared.model.UniformModel.{UniformModel}

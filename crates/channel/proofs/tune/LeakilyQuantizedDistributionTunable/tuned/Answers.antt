@@ -1,4 +1,4 @@
-use Rattle.std.proofs.Common.{◌≡◌, ap, ◌∙◌}
+use Rattle.std.proofs.Common.{ap, ◌∙◌}
 use Rattle.quantize.specs.Extents.{means}
 use Rattle.quantize.specs.declared.quantizer.LeakyQuantizer.{LeakyQuantizer}
 use Rattle.channel.proofs.tune.LeakilyQuantizedDistributionTunable.tuned.Goals as goal

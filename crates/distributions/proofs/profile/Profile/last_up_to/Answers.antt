@@ -1,5 +1,5 @@
 -- A step down leaves out only knots above y, since the knots rise; at the end one index is left.
-use Rattle.std.proofs.Common.{◌≡◌, ℕ, ◌+◌, ◌-◌, ◌/◌, ◌<◌, ◌≤◌, false, get_or, subst, arith}
+use Rattle.std.proofs.Common.{◌≡◌, ◌+◌, ◌-◌, ◌/◌, false, get_or, subst, arith}
 use lib.Ieee.{Float, le}
 use Rattle.distributions.specs.Parts.{parts_of}
 use Rattle.distributions.specs.Profile.{whole}

@@ -1,6 +1,6 @@
 -- Each exit is a case of `Breaks`, with what the tests before it left.
-use Rattle.std.proofs.Common.{ℕ, ◌<◌, ◌≤◌, refl, ⊎_elim, arith}
-use Rattle.distributions.specs.Tables.{Breaks, count, width, first, rising, last, Due}
+use Rattle.std.proofs.Common.{refl, ⊎_elim, arith}
+use Rattle.distributions.specs.Tables.{count, width, first, rising, last}
 use Rattle.distributions.proofs.profile.rules.judge.Goals as goal
 
 pub returns-then-n-lt2 : goal.returns-then-n-lt2

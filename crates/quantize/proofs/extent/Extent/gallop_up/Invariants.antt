@@ -1,4 +1,4 @@
-use Rattle.std.proofs.Common.{◌≡◌, suc, ◌+◌, ◌-◌, ◌<◌, ◌≤◌}
+use Rattle.std.proofs.Common.{◌≡◌, suc, ◌-◌, ◌<◌, ◌≤◌}
 use Rattle.quantize.specs.Extents.{means}
 use Rattle.quantize.proofs.extent.Extent.gallop_up.Given as goal
 

@@ -1,5 +1,4 @@
-use Rattle.std.proofs.Common.{◌≡◌, pos, ◌-ℤ◌, ap, ◌∙◌, arith, w64, to_z, of_z}
-use mir.Syntax.{w128}
+use Rattle.std.proofs.Common.{arith}
 use Rattle.std.proofs.lemmas.Int.{ints}
 use Rattle.quantize.proofs.extent.Extent.row_of.Goals as goal
 

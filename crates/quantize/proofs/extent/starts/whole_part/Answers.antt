@@ -1,7 +1,6 @@
 use Rattle.std.proofs.Common.{arith}
-use lib.Ieee.{binary64, of_bits}
 use Rattle.std.proofs.lemmas.Int.{ints}
-use Rattle.rounding.proofs.Cuts.{Cut, cut_by_sum}
+use Rattle.rounding.proofs.Cuts.{cut_by_sum}
 use Rattle.rounding.proofs.Literals.{wholes_bits}
 use Rattle.quantize.proofs.extent.starts.whole_part.Goals as goal
 
