@@ -9,8 +9,6 @@ use models::distribution::Distribution;
 use models::model::EntropyModel;
 use quantize::quantizer::LeakilyQuantizedDistribution;
 use quantize::support::Support;
-use uniform::model::UniformModel;
-use uniform::range::UniformRange;
 
 // What no model is tuned by: it has no value.
 #[derive(Clone, Copy)]
@@ -35,17 +33,6 @@ impl<S: Support, D: Distribution> Tunable for LeakilyQuantizedDistribution<S, D>
 
     fn tuned(&self, tuning: D) -> LeakilyQuantizedDistribution<S, D> {
         self.quantizer().quantize(tuning)
-    }
-}
-
-// A uniform model has no distribution to take.
-impl<R: UniformRange> Tunable for UniformModel<R> {
-    type Tuning = Never;
-
-    ghost heights = { λ never. elim never [ ] };
-
-    fn tuned(&self, tuning: Never) -> UniformModel<R> {
-        match tuning {}
     }
 }
 

@@ -1,14 +1,15 @@
 // Replay: a list of calls run on a freshly opened channel, with a log of what came.
-ghost use Rattle.std.specs.Prelude.{◌≡◌, true, map, length, replicate, pos, is_ok, IfOk};
+ghost use Rattle.std.specs.Prelude.{◌≡◌, true, map, length, replicate, pos, is_ok, IfOk, MatchOption};
 ghost use Rattle.quantize.specs.Extents.{means};
 ghost use Rattle.uniform.specs.Uniform.{uniform};
-ghost use Rattle.channel.specs.Events.{Untuned};
+ghost use Rattle.models.specs.Heights.{Height};
+ghost use Rattle.channel.specs.Events.{retuned, Untuned};
 ghost use Rattle.histories.specs.Logs.{call_of, event_of, page_event, untunable};
 ghost use Rattle.histories.specs.Openings.{opening_of};
 ghost use Rattle.histories.specs.Promises.{opened, EveryHistory, EveryUniformHistory, TwoEnds};
 ghost use Rattle.channel.specs.Steps.{at, Run, Step};
 
-use channel::tune::{Never, Tunable};
+use channel::tune::Never;
 use channel::walk::Channel;
 use measures::logarithm::Fine;
 use models::distribution::{Distribution, Inverse};
@@ -99,8 +100,51 @@ fn fill_page<M: IterableEntropyModel>(
     })
 }
 
+// What a list of calls asks of a model. One that takes no tuning has a `Tuning` without values, and its calls bring none.
+trait Replayed: EncoderModel + DecoderModel + IterableEntropyModel {
+    type Tuning;
+
+    ghost heights: { Self.Tuning → Height };
+
+    // Retunes a channel, where there is something to retune it by.
+    fn retune(channel: &mut Channel<Self>, tuning: Option<Self::Tuning>)
+    where
+        Self: Sized + Drop,
+        ensures { MatchOption tuning (channel.new ≡ channel.old) (λ t. Step (at (Self.EntropyModel.meaning channel.old.model) channel.old.row) (retuned (heights t)) (at (Self.EntropyModel.meaning channel.new.model) channel.new.row)) };
+}
+
+impl<S: Support, D: Inverse + Drop> Replayed for LeakilyQuantizedDistribution<S, D> {
+    type Tuning = D;
+
+    ghost heights = { D.Distribution.height };
+
+    fn retune(channel: &mut Channel<LeakilyQuantizedDistribution<S, D>>, tuning: Option<D>)
+        ensures { MatchOption tuning (channel.new ≡ channel.old) (λ t. Step (at (means (S.Support.covered channel.old.model.quantizer.support) (D.Distribution.height channel.old.model.inner)) channel.old.row) (retuned (D.Distribution.height t)) (at (means (S.Support.covered channel.new.model.quantizer.support) (D.Distribution.height channel.new.model.inner)) channel.new.row)) }
+    {
+        if let Some(distribution) = tuning {
+            channel.retune(distribution);
+        }
+    }
+}
+
+// A uniform model has no distribution to take.
+impl<R: UniformRange> Replayed for UniformModel<R> {
+    type Tuning = Never;
+
+    ghost heights = { untunable };
+
+    fn retune(channel: &mut Channel<UniformModel<R>>, tuning: Option<Never>)
+        ensures { MatchOption tuning (channel.new ≡ channel.old) (λ never. Step (at (uniform (R.UniformRange.bits channel.old.model.range) (R.UniformRange.count channel.old.model.range)) channel.old.row) (retuned (untunable never)) (at (uniform (R.UniformRange.bits channel.new.model.range) (R.UniformRange.count channel.new.model.range)) channel.new.row)) }
+    {
+        match tuning {
+            None => {}
+            Some(never) => match never {},
+        }
+    }
+}
+
 // Makes one call, and logs it with its answer.
-fn apply<M: EncoderModel + DecoderModel + IterableEntropyModel + Tunable + Drop>(
+fn apply<M: Replayed + Drop>(
     heap: Global,
     channel: &mut Channel<M>,
     call: &Call<M::Symbol, M::Probability, M::Tuning>,
@@ -108,7 +152,7 @@ fn apply<M: EncoderModel + DecoderModel + IterableEntropyModel + Tunable + Drop>
 where
     M::Tuning: Copy,
     ensures call { IfOk result (λ entry. call_of entry ≡ call.now) }
-    ensures step { IfOk result (λ entry. Step (at (M.EntropyModel.meaning channel.old.model) channel.old.row) (event_of M.Symbol.Symbol.whole M.Probability.BitArray.value M.Tunable.heights entry) (at (M.EntropyModel.meaning channel.new.model) channel.new.row)) }
+    ensures step { IfOk result (λ entry. Step (at (M.EntropyModel.meaning channel.old.model) channel.old.row) (event_of M.Symbol.Symbol.whole M.Probability.BitArray.value M.Replayed.heights entry) (at (M.EntropyModel.meaning channel.new.model) channel.new.row)) }
 {
     match call {
         Call::Encode(symbol) => Ok(Entry::Encoded(*symbol, channel.encode(*symbol))),
@@ -129,14 +173,14 @@ where
             Ok(Entry::Rewound)
         }
         Call::Retune(tuning) => {
-            channel.retune(*tuning);
+            M::retune(channel, Some(*tuning));
             Ok(Entry::Retuned(*tuning))
         }
     }
 }
 
 // Makes the calls in their order. Memory is taken only where there is a call.
-fn run<M: EncoderModel + DecoderModel + IterableEntropyModel + Tunable + Drop>(
+fn run<M: Replayed + Drop>(
     heap: Global,
     channel: &mut Channel<M>,
     calls: &[Call<M::Symbol, M::Probability, M::Tuning>],
@@ -145,7 +189,7 @@ where
     M::Tuning: Copy,
     ensures calls { IfOk result (λ log. map call_of log.items ≡ calls.now) }
     ensures succeeds { length calls.now ≡ 0 → is_ok result ≡ true }
-    ensures run { IfOk result (λ log. Run (at (M.EntropyModel.meaning channel.old.model) channel.old.row) (map (event_of M.Symbol.Symbol.whole M.Probability.BitArray.value M.Tunable.heights) log.items) (at (M.EntropyModel.meaning channel.new.model) channel.new.row)) }
+    ensures run { IfOk result (λ log. Run (at (M.EntropyModel.meaning channel.old.model) channel.old.row) (map (event_of M.Symbol.Symbol.whole M.Probability.BitArray.value M.Replayed.heights) log.items) (at (M.EntropyModel.meaning channel.new.model) channel.new.row)) }
 {
     let mut log = Vec::new(heap);
     for call in calls {

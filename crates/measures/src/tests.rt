@@ -1,6 +1,7 @@
 // Some values, and a model of two symbols.
 ghost use Rattle.std.specs.Prelude.{◌*◌, pos};
-ghost use Rattle.std.proofs.Common.{rules};
+ghost use Rattle.std.proofs.Common.{lit<, refl, rules};
+ghost use Rattle.std.proofs.Math.Nat.{lt-suc_self, mul-lt-mul_of_pos_right};
 
 use crate::entropy::{cross_entropy_base2, entropy_base2};
 use crate::logarithm::{Coarse, Fine, Logarithm};
@@ -17,7 +18,7 @@ impl EntropyModel for Coin {
 
     ghost meaning = { λ _. record { low = pos 0; span = 1; bits = 4; start = λ i. i * 8 } };
 
-    ghost cuts = { Prim.search rules };
+    ghost cuts = { λ _. record { some = lit< tt; first = refl; rises = λ i _. mul-lt-mul_of_pos_right (lt-suc_self i) (lit< tt); last = refl } };
 
     ghost fits = { Prim.search rules };
 }

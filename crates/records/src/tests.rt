@@ -21,7 +21,7 @@ fn lines(rt: HostRuntime) -> Result<(), Fail> {
     )?;
     assert!(rt;
         out.as_slice()
-            == b"channel 4294967295\n-2147483648 0 4294967295\n10 9 1000000000\nchannel 7 refused 1 8 31\n"
+            == b"channel 4294967295\n-2147483648 0 4294967295\n10 9 1000000000\nchannel 7 refused 1 8 31\n".as_slice()
     );
     Ok(())
 }

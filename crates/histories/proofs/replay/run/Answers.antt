@@ -27,7 +27,7 @@ loop-call-preserved g c =
     let grown : after ≡ before ++ entry ∷ [] = c.in_ok-push.ensures.items in (
       calls_more before after entry grown call_of c.args.calls.now c.loop-call.call-index c.call-item.result
           c.loop-call-test.true c.call-item.is c.in_ok-apply.ensures.call c.loop-call.invariant.0,
-      events_more (event_of g.M.Symbol.Symbol.whole g.M.Probability.BitArray.value g.M.Tunable.heights) before after entry grown
+      events_more (event_of g.M.Symbol.Symbol.whole g.M.Probability.BitArray.value g.M.Replayed.heights) before after entry grown
           (at (g.M.EntropyModel.meaning c.args.channel.now.model) c.args.channel.now.row)
           (at (g.M.EntropyModel.meaning c.loop-call.channel.model) c.loop-call.channel.row)
           (at (g.M.EntropyModel.meaning c.apply.new.channel.model) c.apply.new.channel.row)
