@@ -1,4 +1,4 @@
-//! Links the static libraries of this library and of the kit into the driver.
+//! Links the static libraries of this library into the driver.
 
 fn main() {
     println!("cargo:rerun-if-env-changed=COMPARE_NATIVE");
@@ -6,7 +6,7 @@ fn main() {
         return;
     };
     println!("cargo:rustc-link-search=native={folder}");
-    for library in ["bridge", "toghinzu", "rattle_c"] {
+    for library in ["bridge", "toghinzu"] {
         println!("cargo:rerun-if-changed={folder}/lib{library}.a");
         println!("cargo:rustc-link-arg-bins={folder}/lib{library}.a");
     }
