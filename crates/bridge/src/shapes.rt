@@ -1,6 +1,6 @@
 // Distributions that only a driver has: one height everywhere, and any distribution with one guess for every quantile.
 ghost use Rattle.std.specs.Float.Ieee.{le};
-ghost use Rattle.std.specs.Prelude.{◌≡◌, true, false, MatchOption, Float};
+ghost use Rattle.std.specs.Prelude.{◌≡◌, true, false, MatchOption};
 ghost use Rattle.distributions.specs.Peak.{within};
 ghost use Rattle.bridge.specs.Flat.{flat, flat_lawful};
 ghost use Rattle.rounding.specs.Fractions.{nought, one};

@@ -1,5 +1,4 @@
 // Retuning: a model takes new heights over its support, and the walk starts over.
-ghost use Rattle.std.specs.Prelude.{◌≡◌, Float};
 ghost use Rattle.models.specs.Heights.{Height};
 ghost use Rattle.channel.specs.Events.{retuned};
 ghost use Rattle.channel.specs.Steps.{at, Retuned, Step};

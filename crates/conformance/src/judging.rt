@@ -1,5 +1,5 @@
 // The judgement of a claim about a model, by the model's own calls.
-ghost use Rattle.std.specs.Prelude.{◌≡◌, Ok, Decides};
+ghost use Rattle.std.specs.Prelude.{Ok, Decides};
 ghost use Rattle.models.specs.Answers.{Encodes, Searches};
 ghost use Rattle.conformance.specs.Claims.{LikelyBits, Judged};
 

@@ -1,6 +1,6 @@
 -- What a Profile is made of, and the rules of its table.
 -- Assumes nothing.
-use Rattle.std.specs.Prelude.{◌≡◌, ℕ, ◌-◌, ◌<◌, ◌≤◌, List, length, ℤ, Ok, Err, Result, slice_index, slice_index_or}
+use Rattle.std.specs.Prelude.{◌≡◌, ℕ, ◌-◌, ◌<◌, ◌≤◌, List, length, ℤ, Ok, Err, Result, slice_index}
 use Rattle.distributions.specs.declared.fault.DistributionFault.{DistributionFault}
 use Rattle.distributions.specs.declared.fault.DistributionFault.TheVariants.{Knots}
 
@@ -41,7 +41,7 @@ pub record Sound (w : ℕ) (c : List ℕ) : Type 0 where
 -- knot i is the first that is lower than the one before it
 pub record FirstFall (c : List ℕ) (i : ℕ) : Type 0 where
   pub within : i < length c
-  pub falls : slice_index_or c i 0 < slice_index c (i - 1)
+  pub falls : slice_index c i < slice_index c (i - 1)
   pub before : (j : ℕ) → j < i → slice_index c (j - 1) ≤ slice_index c j
 
 -- the first rule that a table breaks, in the order of the checks, and the place of the knot that breaks it

@@ -1,6 +1,6 @@
 // The quantizer, and a distribution that it quantizes: its intervals, by symbol, by quantile and by row.
 ghost use Rattle.std.specs.Prelude.{◌≡◌, suc, ◌≤◌, pos, ◌+ℤ◌};
-ghost use Rattle.models.specs.Answers.{IsRow, Makes};
+ghost use Rattle.models.specs.Answers.{Makes};
 ghost use Rattle.models.specs.Meaning.{Interval};
 ghost use Rattle.quantize.specs.Extents.{Covers, means};
 ghost use Rattle.quantize.specs.Quantized.{refusal};

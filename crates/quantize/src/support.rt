@@ -4,7 +4,7 @@ ghost use Rattle.models.specs.Answers.{Makes};
 ghost use Rattle.quantize.specs.Extents.{Covers};
 ghost use Rattle.quantize.specs.Quantized.{refusal};
 ghost use Rattle.quantize.specs.declared.extent.Extent.{Extent as Range};
-ghost use Rattle.std.proofs.Common.{rules, arith};
+ghost use Rattle.std.proofs.Common.{rules};
 
 use crate::extent::Extent;
 use models::bits::BitArray;

@@ -1,6 +1,5 @@
 -- Which model a record describes, and which fault it has.
 use Rattle.std.specs.Prelude.{◌≡◌, ℕ, List, ℤ, pos, negsuc, ◌-ℤ◌, Some, None, Ok, Err, Option, Result, unsigned_abs, Float}
-use Rattle.models.specs.Meaning.{Meaning}
 use Rattle.models.specs.declared.fault.ModelFault.{ModelFault}
 use Rattle.distributions.specs.Peak as peak
 use Rattle.distributions.specs.declared.fault.DistributionFault.{DistributionFault}

@@ -1,10 +1,10 @@
 // Uniform channels: u64 symbols from 0, u32 probabilities.
-ghost use Rattle.std.specs.Prelude.{◌≡◌, ℕ, pos};
+ghost use Rattle.std.specs.Prelude.{◌≡◌, pos};
 ghost use Rattle.channel.specs.Answered.{buffers_of};
 ghost use Rattle.channel.specs.Steps.{at, itself};
 ghost use Rattle.models.specs.Answers.{Makes};
 ghost use Rattle.uniform.specs.Uniform.{uniform, refusal};
-ghost use Rattle.toghinzu.specs.Calls.{Opened, Encoded, Searched, Paged, Places};
+ghost use Rattle.toghinzu.specs.Calls.{Opened, Encoded, Searched, Paged};
 ghost use Rattle.toghinzu.specs.Channels.{opened_uniform, uniform_due, uniform_means, uniform_row, uniform_onward};
 
 use crate::parts::{Interval, UniformChannel, UniformRow};

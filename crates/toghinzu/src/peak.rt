@@ -1,10 +1,10 @@
 // Peak channels: i32 symbols, u32 probabilities.
-ghost use Rattle.std.specs.Prelude.{◌≡◌, ℤ};
+ghost use Rattle.std.specs.Prelude.{ℤ};
 ghost use Rattle.channel.specs.Answered.{buffers_of};
 ghost use Rattle.channel.specs.Steps.{at, itself};
 ghost use Rattle.models.specs.Answers.{Makes};
 ghost use Rattle.records.specs.Opening.{peak_fault, IsPeak};
-ghost use Rattle.toghinzu.specs.Calls.{Opened, Encoded, Searched, Paged, Places};
+ghost use Rattle.toghinzu.specs.Calls.{Opened, Encoded, Searched, Paged};
 ghost use Rattle.toghinzu.specs.Channels.{opened_peak, peak_due, peak_means, peak_row, peak_onward};
 
 use crate::parts::{Interval, PeakChannel, PeakRow};

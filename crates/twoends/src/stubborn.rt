@@ -1,5 +1,4 @@
 // A make of sensor whose guesses are of no use: its heights are a Peak's, and its inverse answers whatever it likes.
-ghost use Rattle.std.specs.Prelude.{Float};
 ghost use Rattle.distributions.specs.Peak.{height_at};
 ghost use Rattle.distributions.specs.PeakLaws.{peak_lawful};
 

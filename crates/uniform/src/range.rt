@@ -2,7 +2,7 @@
 ghost use Rattle.std.specs.Prelude.{◌≡◌, ℕ, ◌/◌, ◌^◌, ◌<◌, ◌≤◌};
 ghost use Rattle.models.specs.Answers.{Makes};
 ghost use Rattle.uniform.specs.Uniform.{refusal};
-ghost use Rattle.std.proofs.Common.{rules, arith};
+ghost use Rattle.std.proofs.Common.{rules};
 
 use models::bits::BitArray;
 use models::fault::ModelFault;

@@ -1,5 +1,5 @@
 // The checks of a support, on whole numbers.
-ghost use Rattle.std.specs.Prelude.{◌≡◌, ◌≤◌, pos, negsuc, ◌≤ℤ◌};
+ghost use Rattle.std.specs.Prelude.{◌≤◌, pos, negsuc, ◌≤ℤ◌};
 ghost use Rattle.models.specs.Answers.{Makes};
 ghost use Rattle.quantize.specs.Extents.{Covers};
 ghost use Rattle.quantize.specs.Quantized.{refusal};

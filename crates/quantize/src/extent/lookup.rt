@@ -1,5 +1,5 @@
 // Looks up the row that holds a quantile: the step widens from the guess, then it is halved.
-ghost use Rattle.std.specs.Prelude.{◌≡◌, suc, ◌+◌, ◌^◌, ◌<◌, ◌≤◌};
+ghost use Rattle.std.specs.Prelude.{◌≡◌, ◌+◌, ◌^◌, ◌<◌, ◌≤◌};
 ghost use Rattle.quantize.specs.Brackets.{Bracket};
 ghost use Rattle.quantize.specs.Extents.{means};
 ghost use Rattle.quantize.specs.Quantized.{middle_of};
