@@ -1,7 +1,7 @@
 -- The lines of a table, row after row.
 use Rattle.std.proofs.Common.{◌≡◌, ℕ, zero, suc, ◌+◌, ◌-◌, ◌^◌, ◌<◌, ◌≤◌, List, [], ◌++◌, length, ℤ, pos, ◌+ℤ◌, Some, vec_items, vec_len, vec_capacity, Vec, sym, ap, ◌∙◌, ⊎_elim, append_assoc, append-nil, zero-le, add-zero, add-suc, suc-add, add-one, arith, length-append, pow_mono}
 use Rattle.models.proofs.Cuts.{interval_between, length_fits, start_fits}
-use Rattle.models.specs.Answers.{Starts}
+use Rattle.models.specs.Answers.{IsRow, Starts}
 use Rattle.models.specs.Meaning.{Meaning, Partition}
 use Rattle.std.proofs.lemmas.Bool.{cases_lt}
 use Rattle.records.specs.Buffer.{Room, Added, Emptied}
@@ -42,8 +42,16 @@ row_prints m width i s e cuts fits narrow from to =
     }
 
 -- what is printed of a row is its line
-pub row_line_lem : (m : Meaning) (i s e : ℕ) (z : ℤ) → z ≡ m.low +ℤ pos i → s ≡ m.start i → Starts m (i + 1) (Some e) → row_line z s (e - s) ≡ line_of m i
-row_line_lem m i s e z symbol from to =
+pub row_line_lem : {S P : Type 0} (whole : S → ℤ) (value : P → ℕ) (m : Meaning) (i : ℕ) (r : S × P × P) → IsRow whole value m i r → (z : ℤ) (s l : ℕ) → z ≡ whole r.0 → s ≡ value r.1 → l ≡ value r.2 → row_line z s l ≡ line_of m i
+row_line_lem whole value m i r is z s l e f g =
+    let a = e ∙ is.at.symbol in
+    let b = f ∙ is.interval.start in
+    let c : l ≡ m.start (suc i) - m.start i = omega (arith, g, is.interval.end, is.interval.start) in
+    cc
+
+-- the same of a row that is known by where it starts and where it ends
+pub row_line_between : (m : Meaning) (i s e : ℕ) (z : ℤ) → z ≡ m.low +ℤ pos i → s ≡ m.start i → Starts m (i + 1) (Some e) → row_line z s (e - s) ≡ line_of m i
+row_line_between m i s e z symbol from to =
     let end : e ≡ m.start (suc i) = to.1 ∙ ap m.start (add-one i) in
     cc
 

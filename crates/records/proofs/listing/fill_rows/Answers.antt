@@ -3,7 +3,7 @@ use Rattle.std.proofs.lemmas.Int.{ints}
 use Rattle.models.specs.Meaning.{Meaning}
 use Rattle.records.proofs.Appending.{added_both, added_none, added_same}
 use Rattle.models.proofs.Room.{rows_few}
-use Rattle.records.proofs.Tables.{Prints, row_line_lem, row_prints, rows_more, rows_none}
+use Rattle.records.proofs.Tables.{Prints, row_line_between, row_prints, rows_more, rows_none}
 use Rattle.records.proofs.listing.fill_rows.Given.{Over}
 use Rattle.records.proofs.listing.fill_rows.Goals as goal
 
@@ -50,6 +50,6 @@ loop-from-preserved g c =
       inv.2,
       end.1,
       added_same
-          (added_both inv.4 (added_same c.put_row.ensures (row_line_lem m c.loop-from.row _ _ _ (omega (arith, ints, end.0)) inv.3 end)))
+          (added_both inv.4 (added_same c.put_row.ensures (row_line_between m c.loop-from.row _ _ _ (omega (arith, ints, end.0)) inv.3 end)))
           (sym (rows_more m c.args.from c.loop-from.row inv.0)),
     )
