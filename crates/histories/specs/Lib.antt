@@ -1,3 +1,4 @@
 pub mod Logs
 pub mod Promises
 pub mod Openings
+pub mod Tunings

@@ -1,11 +1,12 @@
 // Replay: a list of calls run on a freshly opened channel, with a log of what came.
-ghost use Rattle.std.specs.Prelude.{◌≡◌, true, map, length, replicate, pos, is_ok, IfOk, MatchOption};
+ghost use Rattle.std.specs.Prelude.{◌≡◌, true, map, length, replicate, pos, is_ok, IfOk};
 ghost use Rattle.quantize.specs.Extents.{means};
 ghost use Rattle.uniform.specs.Uniform.{uniform};
 ghost use Rattle.models.specs.Heights.{Height};
-ghost use Rattle.channel.specs.Events.{retuned, Untuned};
+ghost use Rattle.channel.specs.Events.{Untuned};
 ghost use Rattle.histories.specs.Logs.{call_of, event_of, page_event, untunable};
 ghost use Rattle.histories.specs.Openings.{opening_of};
+ghost use Rattle.histories.specs.Tunings.{Retunes};
 ghost use Rattle.histories.specs.Promises.{opened, EveryHistory, EveryUniformHistory, TwoEnds};
 ghost use Rattle.channel.specs.Steps.{at, Run, Step};
 
@@ -110,7 +111,7 @@ trait Replayed: EncoderModel + DecoderModel + IterableEntropyModel {
     fn retune(channel: &mut Channel<Self>, tuning: Option<Self::Tuning>)
     where
         Self: Sized + Drop,
-        ensures { MatchOption tuning (channel.new ≡ channel.old) (λ t. Step (at (Self.EntropyModel.meaning channel.old.model) channel.old.row) (retuned (heights t)) (at (Self.EntropyModel.meaning channel.new.model) channel.new.row)) };
+        ensures { Retunes (λ c. at (Self.EntropyModel.meaning c.model) c.row) heights tuning channel.old channel.new };
 }
 
 impl<S: Support, D: Inverse + Drop> Replayed for LeakilyQuantizedDistribution<S, D> {
@@ -119,7 +120,7 @@ impl<S: Support, D: Inverse + Drop> Replayed for LeakilyQuantizedDistribution<S,
     ghost heights = { D.Distribution.height };
 
     fn retune(channel: &mut Channel<LeakilyQuantizedDistribution<S, D>>, tuning: Option<D>)
-        ensures { MatchOption tuning (channel.new ≡ channel.old) (λ t. Step (at (means (S.Support.covered channel.old.model.quantizer.support) (D.Distribution.height channel.old.model.inner)) channel.old.row) (retuned (D.Distribution.height t)) (at (means (S.Support.covered channel.new.model.quantizer.support) (D.Distribution.height channel.new.model.inner)) channel.new.row)) }
+        ensures { Retunes (λ c. at (means (S.Support.covered c.model.quantizer.support) (D.Distribution.height c.model.inner)) c.row) D.Distribution.height tuning channel.old channel.new }
     {
         if let Some(distribution) = tuning {
             channel.retune(distribution);
@@ -134,7 +135,7 @@ impl<R: UniformRange> Replayed for UniformModel<R> {
     ghost heights = { untunable };
 
     fn retune(channel: &mut Channel<UniformModel<R>>, tuning: Option<Never>)
-        ensures { MatchOption tuning (channel.new ≡ channel.old) (λ never. Step (at (uniform (R.UniformRange.bits channel.old.model.range) (R.UniformRange.count channel.old.model.range)) channel.old.row) (retuned (untunable never)) (at (uniform (R.UniformRange.bits channel.new.model.range) (R.UniformRange.count channel.new.model.range)) channel.new.row)) }
+        ensures { Retunes (λ c. at (uniform (R.UniformRange.bits c.model.range) (R.UniformRange.count c.model.range)) c.row) untunable tuning channel.old channel.new }
     {
         match tuning {
             None => {}
