@@ -8,26 +8,26 @@ use Rattle.models.specs.Meaning.{Meaning}
 
 -- what is known of each entry below i, and of what is written at i, is known below i + 1
 pub pairs_more :
-    (P : ℕ → ℕ → ℕ → Type 0) (i : ℕ) (ss ls : List ℕ) (s l : ℕ) → i < length ss → i < length ls
-    → ((k : ℕ) → k < i → P k (get_or ss k 0) (get_or ls k 0)) → P i s l
-    → (k : ℕ) → k < i + 1 → P k (get_or (set ss i s) k 0) (get_or (set ls i l) k 0)
-pairs_more P i ss ls s l a b below here k h = placed (cases_eq k i)
+    {T : Type 0} (P : ℕ → T → T → Type 0) (i : ℕ) (ss ls : List T) (s l : T) → i < length ss → i < length ls
+    → ((k : ℕ) (e f : T) → k < i → P k (get_or ss k e) (get_or ls k f)) → P i s l
+    → (k : ℕ) (e f : T) → k < i + 1 → P k (get_or (set ss i s) k e) (get_or (set ls i l) k f)
+pairs_more {T} P i ss ls s l a b below here k e f h = placed (cases_eq k i)
   where
-    placed : (k ≡ i) ⊎ (k ≡ i → ⊥) → P k (get_or (set ss i s) k 0) (get_or (set ls i l) k 0)
-    placed (inl e) = rw (e, get_or-set_same ss i s 0 a, get_or-set_same ls i l 0 b) here
-    placed (inr other) = rw (get_or-set_other ss i k s 0 other, get_or-set_other ls i k l 0 other) (below k (omega (arith, other)))
+    placed : (k ≡ i) ⊎ (k ≡ i → ⊥) → P k (get_or (set ss i s) k e) (get_or (set ls i l) k f)
+    placed (inl at) = rw (at, get_or-set_same ss i s e a, get_or-set_same ls i l f b) here
+    placed (inr other) = rw (get_or-set_other ss i k s e other, get_or-set_other ls i k l f other) (below k e f (omega (arith, other)))
 
 pub rows_more :
-    {N : Type 0} (P : ℕ → N → ℕ → ℕ → Type 0) (i : ℕ) (ns : List N) (ss ls : List ℕ) (n : N) (s l : ℕ)
+    {N T : Type 0} (P : ℕ → N → T → T → Type 0) (i : ℕ) (ns : List N) (ss ls : List T) (n : N) (s l e f : T)
     → i < length ns → i < length ss → i < length ls
-    → ((k : ℕ) (d : N) → k < i → P k (get_or ns k d) (get_or ss k 0) (get_or ls k 0)) → P i n s l
-    → (k : ℕ) (d : N) → k < i + 1 → P k (get_or (set ns i n) k d) (get_or (set ss i s) k 0) (get_or (set ls i l) k 0)
-rows_more {N} P i ns ss ls n s l a b c below here k d h = placed (cases_eq k i)
+    → ((k : ℕ) (d : N) → k < i → P k (get_or ns k d) (get_or ss k e) (get_or ls k f)) → P i n s l
+    → (k : ℕ) (d : N) → k < i + 1 → P k (get_or (set ns i n) k d) (get_or (set ss i s) k e) (get_or (set ls i l) k f)
+rows_more {N} {T} P i ns ss ls n s l e f a b c below here k d h = placed (cases_eq k i)
   where
-    placed : (k ≡ i) ⊎ (k ≡ i → ⊥) → P k (get_or (set ns i n) k d) (get_or (set ss i s) k 0) (get_or (set ls i l) k 0)
-    placed (inl e) = rw (e, get_or-set_same ns i n d a, get_or-set_same ss i s 0 b, get_or-set_same ls i l 0 c) here
+    placed : (k ≡ i) ⊎ (k ≡ i → ⊥) → P k (get_or (set ns i n) k d) (get_or (set ss i s) k e) (get_or (set ls i l) k f)
+    placed (inl at) = rw (at, get_or-set_same ns i n d a, get_or-set_same ss i s e b, get_or-set_same ls i l f c) here
     placed (inr other) =
-        rw (get_or-set_other ns i k n d other, get_or-set_other ss i k s 0 other, get_or-set_other ls i k l 0 other) (below k d (omega (arith, other)))
+        rw (get_or-set_other ns i k n d other, get_or-set_other ss i k s e other, get_or-set_other ls i k l f other) (below k d (omega (arith, other)))
 
 -- a row that is found is found as whole numbers; the quantile may go by another name
 pub as_numbers :

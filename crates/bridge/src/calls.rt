@@ -1,14 +1,8 @@
 // The calls of a driver on quantized models.
-use crate::ask::{Question, ask_make};
+use crate::ask::ask_make;
+use crate::question::{Encoding, Searching, Walking, Weighing};
+use crate::refused::status;
 use crate::request::Request;
-
-// 0 where all was answered, else the number of the refusal.
-pub(crate) fn status(answer: Result<usize, i32>) -> i32 {
-    match answer {
-        Ok(_) => 0,
-        Err(number) => number,
-    }
-}
 
 #[unsafe(no_mangle)]
 pub extern "C" fn bridge_encode(
@@ -18,18 +12,12 @@ pub extern "C" fn bridge_encode(
     starts: &mut [u64],
     lengths: &mut [u64],
 ) -> i32 {
-    let question = Question::Encode;
-    status(ask_make(
-        request,
-        knots,
-        question,
+    let mut question = Encoding {
         symbols,
-        &[],
-        &mut [],
         starts,
         lengths,
-        &mut [],
-    ))
+    };
+    status(ask_make(request, knots, &mut question))
 }
 
 #[unsafe(no_mangle)]
@@ -41,18 +29,13 @@ pub extern "C" fn bridge_find(
     starts: &mut [u64],
     lengths: &mut [u64],
 ) -> i32 {
-    let question = Question::Search;
-    status(ask_make(
-        request,
-        knots,
-        question,
-        &[],
+    let mut question = Searching {
         quantiles,
         symbols,
         starts,
         lengths,
-        &mut [],
-    ))
+    };
+    status(ask_make(request, knots, &mut question))
 }
 
 #[unsafe(no_mangle)]
@@ -62,18 +45,11 @@ pub extern "C" fn bridge_probability(
     symbols: &[i64],
     probabilities: &mut [f64],
 ) -> i32 {
-    let question = Question::Likely;
-    status(ask_make(
-        request,
-        knots,
-        question,
+    let mut question = Weighing {
         symbols,
-        &[],
-        &mut [],
-        &mut [],
-        &mut [],
-        probabilities,
-    ))
+        shares: probabilities,
+    };
+    status(ask_make(request, knots, &mut question))
 }
 
 #[unsafe(no_mangle)]
@@ -85,21 +61,10 @@ pub extern "C" fn bridge_rows(
     lengths: &mut [u64],
     count: &mut usize,
 ) -> i32 {
-    match ask_make(
-        request,
-        knots,
-        Question::Next,
-        &[],
-        &[],
+    let mut question = Walking {
         symbols,
         starts,
         lengths,
-        &mut [],
-    ) {
-        Err(number) => number,
-        Ok(rows) => {
-            *count = rows;
-            0
-        }
-    }
+    };
+    status(ask_make(request, knots, &mut question).map(|rows| *count = rows))
 }

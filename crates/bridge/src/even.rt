@@ -1,50 +1,29 @@
 // The calls of a driver on uniform models, of 16 or 32 bits.
-use crate::ask::{NONE_SUCH, Question, ask};
-use crate::calls::status;
+use crate::question::{Ask, Encoding, Searching, Weighing};
+use crate::refused::{Refused, status};
+use models::bits::BitArray;
 use uniform::model::UniformModel;
-use uniform::range::{EvenRange, UniformRange};
 
-// At a width.
-fn ask_range<R: UniformRange>(
-    precision: u32,
-    range: u64,
-    question: Question,
-    asked: &[u64],
-    quantiles: &[u64],
-    symbols: &mut [u64],
-    starts: &mut [u64],
-    lengths: &mut [u64],
-    shares: &mut [f64],
-) -> Result<usize, i32> {
-    match UniformModel::<R>::new(precision, range as usize) {
-        Err(fault) => Err(fault.number() as i32),
-        Ok(model) => Ok(ask(
-            model, question, asked, quantiles, symbols, starts, lengths, shares,
-        )),
-    }
-}
-
-// At the width that is asked for.
-fn ask_width(
+// A uniform model as C asks for it.
+#[derive(Clone, Copy)]
+struct Even {
     width: u32,
     precision: u32,
     range: u64,
-    question: Question,
-    asked: &[u64],
-    quantiles: &[u64],
-    symbols: &mut [u64],
-    starts: &mut [u64],
-    lengths: &mut [u64],
-    shares: &mut [f64],
-) -> Result<usize, i32> {
-    match width {
-        16 => ask_range::<EvenRange<16>>(
-            precision, range, question, asked, quantiles, symbols, starts, lengths, shares,
-        ),
-        32 => ask_range::<EvenRange<32>>(
-            precision, range, question, asked, quantiles, symbols, starts, lengths, shares,
-        ),
-        _ => Err(NONE_SUCH),
+}
+
+// At a width.
+fn ask_range<P: BitArray, Q: Ask>(even: Even, question: &mut Q) -> Result<usize, Refused> {
+    let model = UniformModel::<P>::new(even.precision, even.range as usize)?;
+    Ok(question.of(model))
+}
+
+// At the width that is asked for.
+fn ask_width<Q: Ask>(even: Even, question: &mut Q) -> Result<usize, Refused> {
+    match even.width {
+        16 => ask_range::<u16, Q>(even, question),
+        32 => ask_range::<u32, Q>(even, question),
+        _ => Err(Refused::NoneSuch),
     }
 }
 
@@ -57,19 +36,17 @@ pub extern "C" fn bridge_uniform_encode(
     starts: &mut [u64],
     lengths: &mut [u64],
 ) -> i32 {
-    let question = Question::Encode;
-    status(ask_width(
+    let even = Even {
         width,
         precision,
         range,
-        question,
+    };
+    let mut question = Encoding {
         symbols,
-        &[],
-        &mut [],
         starts,
         lengths,
-        &mut [],
-    ))
+    };
+    status(ask_width(even, &mut question))
 }
 
 #[unsafe(no_mangle)]
@@ -82,19 +59,18 @@ pub extern "C" fn bridge_uniform_find(
     starts: &mut [u64],
     lengths: &mut [u64],
 ) -> i32 {
-    let question = Question::Search;
-    status(ask_width(
+    let even = Even {
         width,
         precision,
         range,
-        question,
-        &[],
+    };
+    let mut question = Searching {
         quantiles,
         symbols,
         starts,
         lengths,
-        &mut [],
-    ))
+    };
+    status(ask_width(even, &mut question))
 }
 
 #[unsafe(no_mangle)]
@@ -105,17 +81,14 @@ pub extern "C" fn bridge_uniform_probability(
     symbols: &[u64],
     probabilities: &mut [f64],
 ) -> i32 {
-    let question = Question::Likely;
-    status(ask_width(
+    let even = Even {
         width,
         precision,
         range,
-        question,
+    };
+    let mut question = Weighing {
         symbols,
-        &[],
-        &mut [],
-        &mut [],
-        &mut [],
-        probabilities,
-    ))
+        shares: probabilities,
+    };
+    status(ask_width(even, &mut question))
 }

@@ -6,6 +6,7 @@ pub mod calls;
 pub mod even;
 pub mod loops;
 pub mod pace;
+pub mod question;
+pub mod refused;
 pub mod request;
-pub mod shapes;
 pub mod wide;

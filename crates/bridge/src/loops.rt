@@ -1,5 +1,5 @@
-// Each question, asked of any model for every entry of the buffers.
-ghost use Rattle.std.specs.Prelude.{◌≡◌, ◌+◌, ◌<◌, ◌≤◌, min, length, None, OnSome};
+// Each question, asked of any model for every entry of the buffers, by index: no clause knows what a zip of `iter_mut` wrote.
+ghost use Rattle.std.specs.Prelude.{◌≡◌, ℕ, ◌+◌, ◌<◌, ◌≤◌, min, length, None, OnSome, slice_index_or};
 ghost use Rattle.channel.specs.Pages.{KeptFrom};
 ghost use Rattle.models.specs.Answers.{FromWhole};
 ghost use Rattle.measures.specs.Shares.{Likely};
@@ -28,6 +28,28 @@ fn encode_one<M: EncoderModel + IterableEntropyModel, N: Wide>(model: &M, symbol
     }
 }
 
+// Asks for each entry of `asked`, as far as the shortest buffer reaches, and tells how many there were.
+pub(crate) fn intervals_of<N: Copy, T: Copy, F: Fn(N) -> (T, T)>(
+    of: F,
+    asked: &[N],
+    starts: &mut [T],
+    lengths: &mut [T],
+) -> usize
+    requires { F.IsAlwaysCallable of }
+    ensures count { result ≡ min (length asked.now) (min (length starts.old) (length lengths.old)) }
+    ensures entries { (k : ℕ) (d : N) (e f : T) → k < result → F.post of (slice_index_or asked.now k d) (slice_index_or starts.new k e, slice_index_or lengths.new k f) }
+    ensures starts { KeptFrom result starts.old starts.new }
+    ensures lengths { KeptFrom result lengths.old lengths.new }
+{
+    let count = asked.len().min(starts.len().min(lengths.len()));
+    for i in 0..count {
+        let (start, length) = of(asked[i]);
+        starts[i] = start;
+        lengths[i] = length;
+    }
+    count
+}
+
 pub fn encode_each<M: EncoderModel + IterableEntropyModel, N: Wide>(
     model: &M,
     symbols: &[N],
@@ -39,13 +61,14 @@ pub fn encode_each<M: EncoderModel + IterableEntropyModel, N: Wide>(
     ensures starts { KeptFrom result starts.old starts.new }
     ensures lengths { KeptFrom result lengths.old lengths.new }
 {
-    let count = symbols.len().min(starts.len().min(lengths.len()));
-    for i in 0..count {
-        let (start, length) = encode_one(model, symbols[i]);
-        starts[i] = start;
-        lengths[i] = length;
-    }
-    count
+    intervals_of(
+        |symbol: N| -> (u64, u64)
+            ensures { EncodesTo (M.EntropyModel.meaning model.entry.now) (N.Wide.whole symbol) result.0 result.1 }
+        { encode_one(model, symbol) },
+        symbols,
+        starts,
+        lengths,
+    )
 }
 
 // A symbol in the numbers of the buffers, where they have it.
@@ -71,6 +94,32 @@ fn find_one<M: DecoderModel, N: Wide>(model: &M, quantile: u64) -> (N, u64, u64)
     }
 }
 
+// The same of three buffers.
+pub(crate) fn rows_of<Q: Copy, N: Copy, T: Copy, F: Fn(Q) -> (N, T, T)>(
+    of: F,
+    asked: &[Q],
+    symbols: &mut [N],
+    starts: &mut [T],
+    lengths: &mut [T],
+) -> usize
+    requires { F.IsAlwaysCallable of }
+    ensures count { result ≡ min (length asked.now) (min (length symbols.old) (min (length starts.old) (length lengths.old))) }
+    ensures entries { (k : ℕ) (d : Q) (n : N) (e f : T) → k < result → F.post of (slice_index_or asked.now k d) (slice_index_or symbols.new k n, slice_index_or starts.new k e, slice_index_or lengths.new k f) }
+    ensures symbols { KeptFrom result symbols.old symbols.new }
+    ensures starts { KeptFrom result starts.old starts.new }
+    ensures lengths { KeptFrom result lengths.old lengths.new }
+{
+    let room = symbols.len().min(starts.len().min(lengths.len()));
+    let count = asked.len().min(room);
+    for i in 0..count {
+        let (symbol, start, length) = of(asked[i]);
+        symbols[i] = symbol;
+        starts[i] = start;
+        lengths[i] = length;
+    }
+    count
+}
+
 pub fn find_each<M: DecoderModel, N: Wide>(
     model: &M,
     quantiles: &[u64],
@@ -84,15 +133,15 @@ pub fn find_each<M: DecoderModel, N: Wide>(
     ensures starts { KeptFrom result starts.old starts.new }
     ensures lengths { KeptFrom result lengths.old lengths.new }
 {
-    let room = symbols.len().min(starts.len().min(lengths.len()));
-    let count = quantiles.len().min(room);
-    for i in 0..count {
-        let (symbol, start, length) = find_one(model, quantiles[i]);
-        symbols[i] = symbol;
-        starts[i] = start;
-        lengths[i] = length;
-    }
-    count
+    rows_of(
+        |quantile: u64| -> (N, u64, u64)
+            ensures { SearchesTo N.Wide.whole N.Wide.least N.Wide.most (M.EntropyModel.meaning model.entry.now) quantile result.0 result.1 result.2 }
+        { find_one(model, quantile) },
+        quantiles,
+        symbols,
+        starts,
+        lengths,
+    )
 }
 
 // The probability of a whole number, 0 outside the support.

@@ -1,4 +1,4 @@
-// Whole numbers of 64 bits, in which the symbols of every make cross.
+// Whole numbers of 64 bits, in which the symbols of every make cross. They are no symbols of a model, so `Symbol` has no part for them.
 ghost use Rattle.std.specs.Prelude.{◌≡◌, ℤ, pos, negsuc};
 ghost use Rattle.models.specs.Answers.{FromWhole};
 
@@ -31,10 +31,7 @@ impl Wide for i64 {
     }
 
     fn from_whole(z: i128) -> Option<i64> {
-        if z < i64::MIN as i128 || z > i64::MAX as i128 {
-            return None;
-        }
-        Some(z as i64)
+        i64::try_from(z).ok()
     }
 
     fn zero() -> i64 {
@@ -54,10 +51,7 @@ impl Wide for u64 {
     }
 
     fn from_whole(z: i128) -> Option<u64> {
-        if z < u64::MIN as i128 || z > u64::MAX as i128 {
-            return None;
-        }
-        Some(z as u64)
+        u64::try_from(z).ok()
     }
 
     fn zero() -> u64 {

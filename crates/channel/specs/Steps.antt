@@ -8,6 +8,7 @@ use Rattle.models.specs.Meaning.{Meaning}
 use Rattle.quantize.specs.Quantized.{quantized}
 use Rattle.channel.specs.Events.{Buffers, room, row_at, Asked, encoded, searched, likely, tabled, measured, compared, Event, asked, stepped, filled, rewound, retuned}
 use Rattle.channel.specs.Rows.{Row}
+use Rattle.channel.specs.declared.walk.Channel.{Channel}
 
 -- A channel as it stands: what its model means, and how many rows its walk has handed out. It knows nothing of its make.
 pub record State : Type 0 where
@@ -16,6 +17,10 @@ pub record State : Type 0 where
 
 abbrev pub at : Meaning → ℕ → State
 at m i = record { means = m; row = i }
+
+-- how a channel stands, by what its model means
+abbrev pub state_of : {M : Type 0} → (M → Meaning) → Channel M → State
+state_of meaning c = at (meaning c.model) c.row
 
 -- a whole number is what it is
 abbrev pub itself : {X : Type 0} → X → X
@@ -64,6 +69,10 @@ Step s (stepped a) t = (t ≡ onward s a) × Lists itself itself s.means s.row a
 Step s (filled before after n) t = (t ≡ at s.means (s.row + n)) × Filled s before after n
 Step s rewound t = t ≡ at s.means 0
 Step s (retuned h) t = (t.row ≡ 0) × Retuned s.means h t.means
+
+-- A call that asks, and leaves the channel as it stands.
+abbrev pub Asks : State → Asked → Type 0
+Asks s a = Step s (asked a) s
 
 -- A list of calls, one after the other.
 abbrev pub Run : State → List Event → State → Type 0

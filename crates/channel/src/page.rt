@@ -1,10 +1,10 @@
-// Pages of a table: rows written into three buffers of the caller.
+// Pages of a table: rows written into three buffers of the caller, as the rules and the C interface have them.
 ghost use Rattle.std.specs.Prelude.{◌≡◌, suc, ◌+◌, ◌<◌, ◌≤◌, length, pos, ◌+ℤ◌};
 ghost use Rattle.models.specs.Answers.{IsRow};
 ghost use Rattle.channel.specs.Answered.{buffers_of};
 ghost use Rattle.channel.specs.Events.{filled};
 ghost use Rattle.channel.specs.Pages.{KeptFrom, Written};
-ghost use Rattle.channel.specs.Steps.{at, Filled, Step};
+ghost use Rattle.channel.specs.Steps.{at, state_of, Filled, Step};
 
 use crate::walk::Channel;
 use models::bits::BitArray;
@@ -60,7 +60,7 @@ fn entry<M: IterableEntropyModel>(
     )
 }
 
-// Writes rows from the index `first` on, one height a row.
+// Writes rows from the index `first` on, one height a row. By index: no clause knows what a zip of `iter_mut` wrote.
 fn write_rows<M: IterableEntropyModel>(
     model: &M,
     first: usize,
@@ -117,7 +117,7 @@ impl<M: IterableEntropyModel> Channel<M> {
         lengths: &mut [M::Probability],
     ) -> usize
         ensures model { self.new.model ≡ self.old.model }
-        ensures step { Step (at (M.EntropyModel.meaning self.old.model) self.old.row) (filled (buffers_of M.Symbol.Symbol.whole M.Probability.BitArray.value symbols.old starts.old lengths.old) (buffers_of M.Symbol.Symbol.whole M.Probability.BitArray.value symbols.new starts.new lengths.new) result) (at (M.EntropyModel.meaning self.new.model) self.new.row) }
+        ensures step { Step (state_of M.meaning self.old) (filled (buffers_of M.Symbol.whole M.Probability.value symbols.old starts.old lengths.old) (buffers_of M.Symbol.whole M.Probability.value symbols.new starts.new lengths.new) result) (state_of M.meaning self.new) }
     {
         let count = page(&self.model, self.row, symbols, starts, lengths);
         self.row += count;

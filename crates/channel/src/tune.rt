@@ -1,17 +1,14 @@
 // Retuning: a model takes new heights over its support, and the walk starts over.
 ghost use Rattle.models.specs.Heights.{Height};
 ghost use Rattle.channel.specs.Events.{retuned};
-ghost use Rattle.channel.specs.Steps.{at, Retuned, Step};
+ghost use Rattle.channel.specs.Steps.{state_of, Retuned, Step};
 
 use crate::walk::Channel;
+use models::bits::BitArray;
 use models::distribution::Distribution;
 use models::model::EntropyModel;
+use quantize::narrow::NarrowSymbol;
 use quantize::quantizer::LeakilyQuantizedDistribution;
-use quantize::support::Support;
-
-// What no model is tuned by: it has no value.
-#[derive(Clone, Copy)]
-pub enum Never {}
 
 pub trait Tunable: EntropyModel {
     type Tuning;
@@ -25,12 +22,13 @@ pub trait Tunable: EntropyModel {
         ensures { Retuned (Self.EntropyModel.meaning self.now) (heights tuning) (Self.EntropyModel.meaning result) };
 }
 
-impl<S: Support, D: Distribution> Tunable for LeakilyQuantizedDistribution<S, D> {
+impl<S: NarrowSymbol, P: BitArray, D: Distribution> Tunable
+    for LeakilyQuantizedDistribution<S, P, D> {
     type Tuning = D;
 
     ghost heights = { D.Distribution.height };
 
-    fn tuned(&self, tuning: D) -> LeakilyQuantizedDistribution<S, D> {
+    fn tuned(&self, tuning: D) -> LeakilyQuantizedDistribution<S, P, D> {
         self.quantizer().quantize(tuning)
     }
 }
@@ -38,7 +36,7 @@ impl<S: Support, D: Distribution> Tunable for LeakilyQuantizedDistribution<S, D>
 impl<M: Tunable + Drop> Channel<M> {
     // Takes a new distribution, and starts the walk over.
     pub fn retune(&mut self, tuning: M::Tuning)
-        ensures { Step (at (M.EntropyModel.meaning self.old.model) self.old.row) (retuned (M.Tunable.heights tuning)) (at (M.EntropyModel.meaning self.new.model) self.new.row) }
+        ensures { Step (state_of M.meaning self.old) (retuned (M.Tunable.heights tuning)) (state_of M.meaning self.new) }
     {
         self.model = self.model.tuned(tuning);
         self.row = 0;

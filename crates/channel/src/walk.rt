@@ -2,8 +2,8 @@
 ghost use Rattle.std.specs.Prelude.{◌≡◌};
 ghost use Rattle.std.specs.Option.{option_map};
 ghost use Rattle.channel.specs.Answered.{pair_of, row_is, found_is};
-ghost use Rattle.channel.specs.Events.{encoded, searched, asked, stepped, rewound};
-ghost use Rattle.channel.specs.Steps.{at, Step};
+ghost use Rattle.channel.specs.Events.{encoded, searched, stepped, rewound};
+ghost use Rattle.channel.specs.Steps.{state_of, Asks, Step};
 
 use models::fault::ModelFault;
 use models::model::{DecoderModel, EncoderModel, EntropyModel, IterableEntropyModel};
@@ -26,7 +26,7 @@ impl<M: EntropyModel> Channel<M> {
     // Starts the walk over.
     pub fn rewind(&mut self)
         ensures model { self.new.model ≡ self.old.model }
-        ensures step { Step (at (M.EntropyModel.meaning self.old.model) self.old.row) rewound (at (M.EntropyModel.meaning self.new.model) self.new.row) }
+        ensures step { Step (state_of M.meaning self.old) rewound (state_of M.meaning self.new) }
     {
         self.row = 0;
     }
@@ -35,7 +35,7 @@ impl<M: EntropyModel> Channel<M> {
 impl<M: EncoderModel> Channel<M> {
     // The start and the length of the symbol's interval, or `None` outside the support.
     pub fn encode(&self, symbol: M::Symbol) -> Option<(M::Probability, M::Probability)>
-        ensures { Step (at (M.EntropyModel.meaning self.now.model) self.now.row) (asked (encoded (M.Symbol.Symbol.whole symbol) (option_map (pair_of M.Symbol.Symbol.whole M.Probability.BitArray.value) result))) (at (M.EntropyModel.meaning self.now.model) self.now.row) }
+        ensures { Asks (state_of M.meaning self.now) (encoded (M.Symbol.whole symbol) (option_map (pair_of M.Symbol.whole M.Probability.value) result)) }
     {
         self.model.left_cumulative_and_probability(symbol)
     }
@@ -47,7 +47,7 @@ impl<M: DecoderModel> Channel<M> {
         &self,
         quantile: M::Probability,
     ) -> Result<(M::Symbol, M::Probability, M::Probability), ModelFault>
-        ensures { Step (at (M.EntropyModel.meaning self.now.model) self.now.row) (asked (searched (M.Probability.BitArray.value quantile) (found_is M.Symbol.Symbol.whole M.Probability.BitArray.value result))) (at (M.EntropyModel.meaning self.now.model) self.now.row) }
+        ensures { Asks (state_of M.meaning self.now) (searched (M.Probability.value quantile) (found_is M.Symbol.whole M.Probability.value result)) }
     {
         self.model.quantile_function(quantile)
     }
@@ -57,7 +57,7 @@ impl<M: IterableEntropyModel> Channel<M> {
     // The next row of the walk, or `None` after the last, which changes nothing.
     pub fn next(&mut self) -> Option<(M::Symbol, M::Probability, M::Probability)>
         ensures model { self.new.model ≡ self.old.model }
-        ensures step { Step (at (M.EntropyModel.meaning self.old.model) self.old.row) (stepped (option_map (row_is M.Symbol.Symbol.whole M.Probability.BitArray.value) result)) (at (M.EntropyModel.meaning self.new.model) self.new.row) }
+        ensures step { Step (state_of M.meaning self.old) (stepped (option_map (row_is M.Symbol.whole M.Probability.value) result)) (state_of M.meaning self.new) }
     {
         let row = self.model.symbol_table(self.row)?;
         self.row += 1;

@@ -1,2 +1,1 @@
-mod Agreed
 mod Supports

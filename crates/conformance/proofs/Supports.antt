@@ -1,5 +1,5 @@
 -- A quantizer that was made for a support means the model over it. Assumes nothing.
-use Rattle.std.proofs.Common.{◌≡◌, ℕ, ℤ, pos, negsuc, ◌+ℤ◌, ◌-ℤ◌, nat_abs, None, Option, sym, refl, ap, ◌∙◌, subst, arith}
+use Rattle.std.proofs.Common.{◌≡◌, ℕ, ℤ, pos, ◌+ℤ◌, None, Ok, Err, Option, sym, ap, ◌∙◌, subst, arith}
 use Rattle.std.proofs.lemmas.Int.{ints}
 use Rattle.models.specs.Answers.{Between}
 use Rattle.models.specs.Heights.{Height}
@@ -10,27 +10,19 @@ use Rattle.quantize.specs.Quantized.{quantized, refusal}
 use Rattle.quantize.specs.declared.extent.Extent.{Extent}
 use Rattle.figures.proofs.Makers.{of_makers}
 use Rattle.conformance.specs.Cases.{span_of, Tried, SupportTried}
-use Rattle.conformance.specs.Claims.{Judged}
+use Rattle.conformance.specs.Claims.{Judged, Verdict}
 use Rattle.samples.specs.declared.case.Quantized.{Quantized}
 use Rattle.samples.specs.declared.claim.Claim.{Claim}
-use Rattle.conformance.specs.declared.judging.Verdict.{Verdict}
-use Rattle.conformance.specs.declared.judging.Verdict.TheVariants.{Agrees, Differs, Misfits, Refused}
-
-span_is : (low high : ℤ) (n : ℕ) → low +ℤ pos n ≡ high → span_of low high ≡ n
-span_is low high n e = go (high -ℤ low) refl
-  where
-    go : (d : ℤ) → d ≡ high -ℤ low → nat_abs d ≡ n
-    go (pos k) h = omega (arith, ints)
-    go (negsuc k) h = absurd (omega (arith, ints))
+use Rattle.conformance.specs.declared.judging.Unjudged.TheVariants.{Misfits, Model, Distribution}
 
 pub covered_means :
     (low high : ℤ) (bits : ℕ) (h : Height) (e : Extent) → Covers low high bits e
     → means e h ≡ quantized low (span_of low high) bits h
 covered_means low high bits h e c =
-    let to : low +ℤ pos e.span ≡ high = ap (λ (z : ℤ). z +ℤ pos e.span) (sym c.from) ∙ c.to in
-    let span : span_of low high ≡ e.span = span_is low high e.span to in
+    let to : low +ℤ pos e.span ≡ high = omega (arith, ints) in
+    let span : e.span ≡ span_of low high = omega (arith, ints) in
     of_makers low e.span bits h e (record { from = c.from; to = c.to ∙ sym to; precision = c.precision })
-    ∙ ap (λ (n : ℕ). quantized low n bits h) (sym span)
+    ∙ ap (λ (n : ℕ). quantized low n bits h) span
 
 -- the judgement of a model that was made is the verdict
 pub tried_made :
@@ -39,10 +31,10 @@ pub tried_made :
 tried_made least most width m n c due e s v j = go v (subst (λ (x : Meaning). Judged least most width x c v) s j)
   where
     go : (v : Verdict) → Judged least most width n c v → Tried due (Judged least most width n c) v
-    go Agrees k = (e, k)
-    go Differs k = (e, k)
-    go Misfits k = (e, k)
-    go (Refused number) k = absurd k
+    go (Ok agrees) k = (e, k)
+    go (Err Misfits) k = (e, k)
+    go (Err (Model fault)) k = absurd k
+    go (Err (Distribution fault)) k = absurd k
 
 -- the same of a support whose ends came from symbols of the type
 pub support_tried :
@@ -51,11 +43,8 @@ pub support_tried :
     → refusal width q.precision low high ≡ None → Covers low high q.precision e → m ≡ means e h
     → Judged least most width m c v → SupportTried least most width h q c v
 support_tried least most width h q c v low high e m from to el eh due covers same judged =
-    let due' : refusal width q.precision q.min q.max ≡ None =
-    subst (λ (z : ℤ). refusal width q.precision z q.max ≡ None) el
-    (subst (λ (z : ℤ). refusal width q.precision low z ≡ None) eh due) in
-    let covers' : Covers q.min q.max q.precision e =
-    record { from = covers.from ∙ el; to = covers.to ∙ eh; precision = covers.precision } in
+    let due' : refusal width q.precision q.min q.max ≡ None = rw (← el, ← eh) due in
+    let covers' : Covers q.min q.max q.precision e = rw (← el, ← eh) covers in
     record {
       typed = λ t. tried_made least most width m _ c _ due' (same ∙ covered_means q.min q.max q.precision h e covers') v judged;
       strange = λ none. absurd (none (record { from = from; to = to }));

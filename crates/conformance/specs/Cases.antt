@@ -1,15 +1,14 @@
--- When a verdict on a case is right: a model that the rules refuse is refused with its number, and any other is judged by what it
--- means. Assumes nothing.
-use Rattle.std.specs.Prelude.{◌≡◌, ℕ, ℤ, pos, negsuc, ◌-ℤ◌, Some, None, Option, unsigned_abs}
+-- When a verdict on a case is right: a model that the rules refuse is refused with the fault that is due, and any other is judged by
+-- what it means. Assumes nothing.
+use Rattle.std.specs.Prelude.{◌≡◌, ℕ, ℤ, pos, negsuc, ◌-ℤ◌, Some, None, Ok, Err, Option, unsigned_abs}
 use Rattle.models.specs.Answers.{Between}
-use Rattle.models.specs.Faults.{number_of}
 use Rattle.models.specs.Heights.{Height}
 use Rattle.models.specs.declared.fault.ModelFault.{ModelFault}
 use Rattle.distributions.specs.Peak.{height_at, refusal as peakRefusal}
 use Rattle.distributions.specs.declared.fault.DistributionFault.TheVariants.{Shape}
 use Rattle.quantize.specs.Quantized.{quantized, refusal as quantizerRefusal}
 use Rattle.uniform.specs.Uniform.{uniform, refusal as uniformRefusal}
-use Rattle.conformance.specs.Claims.{Judged}
+use Rattle.conformance.specs.Claims.{Judged, Verdict}
 use Rattle.samples.specs.declared.case.Case.{Case}
 use Rattle.samples.specs.declared.case.Case.TheVariants.{OfPeak, OfUniform}
 use Rattle.samples.specs.declared.case.Quantized.{Quantized}
@@ -19,21 +18,14 @@ use Rattle.samples.specs.declared.case.Uniform.{Uniform}
 use Rattle.samples.specs.declared.case.Width.{Width}
 use Rattle.samples.specs.declared.case.Width.TheVariants.{Bits16, Bits32}
 use Rattle.samples.specs.declared.claim.Claim.{Claim}
-use Rattle.conformance.specs.declared.judging.Verdict.{Verdict}
-use Rattle.conformance.specs.declared.judging.Verdict.TheVariants.{Agrees, Differs, Misfits, Refused}
+use Rattle.conformance.specs.declared.judging.Unjudged.TheVariants.{Misfits, Model, Distribution}
 
--- the fault that is due has this number
-pub record Numbered (due : Option ModelFault) (number : ℕ) : Type 0 where
-  pub fault : ModelFault
-  pub given : due ≡ Some fault
-  pub named : number ≡ number_of fault
-
--- refused with the number of the fault that is due; where none is due, the verdict is right
+-- refused with the fault that is due; where none is due, the verdict is right
 abbrev pub Tried : Option ModelFault → (Verdict → Type 0) → Verdict → Type 0
-Tried due Right (Refused number) = Numbered due number
-Tried due Right Agrees = (due ≡ None) × Right Agrees
-Tried due Right Differs = (due ≡ None) × Right Differs
-Tried due Right Misfits = (due ≡ None) × Right Misfits
+Tried due Right (Ok agrees) = (due ≡ None) × Right (Ok agrees)
+Tried due Right (Err Misfits) = (due ≡ None) × Right (Err Misfits)
+Tried due Right (Err (Model fault)) = due ≡ Some fault
+Tried due Right (Err (Distribution fault)) = ⊥
 
 -- symbols of a uniform model have 64 bits
 abbrev pub UniformTried : ℕ → Uniform → Claim → Verdict → Type 0
@@ -54,7 +46,7 @@ QuantizedTried least most width h q c = Tried (quantizerRefusal width q.precisio
 -- A support that the symbol type does not have misfits.
 pub record SupportTried (least most : ℤ) (width : ℕ) (h : Height) (q : Quantized) (c : Claim) (v : Verdict) : Type 0 where
   pub typed : Typed least most q → QuantizedTried least most width h q c v
-  pub strange : (Typed least most q → ⊥) → v ≡ Misfits
+  pub strange : (Typed least most q → ⊥) → v ≡ Err Misfits
 
 abbrev pub width_of : Width → ℕ
 width_of Bits16 = 16
@@ -76,10 +68,10 @@ most_of U32 = pos 4294967295
 abbrev pub MakeTried : Height → Quantized → Claim → Verdict → Type 0
 MakeTried h q c = SupportTried (least_of q.symbols) (most_of q.symbols) (width_of q.width) h q c
 
--- A Peak outside its limits is refused with 5. A guess changes nothing.
+-- A Peak outside its limits is refused as such. A guess changes nothing.
 pub record PeakTried (q : Quantized) (c : Claim) (v : Verdict) : Type 0 where
   pub shaped : peakRefusal q.centre q.scale ≡ None → MakeTried (height_at q.centre q.scale) q c v
-  pub refused : peakRefusal q.centre q.scale ≡ Some Shape → v ≡ Refused 5
+  pub refused : peakRefusal q.centre q.scale ≡ Some Shape → v ≡ Err (Distribution Shape)
 
 abbrev pub Replayed : Case → Verdict → Type 0
 Replayed (OfPeak q guess c) v = PeakTried q c v

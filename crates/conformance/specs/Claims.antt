@@ -1,14 +1,14 @@
 -- What is claimed of a model, in whole numbers, and when a claim is true: by the definitions that the contracts of models cite.
 -- Assumes nothing.
-use Rattle.std.specs.Prelude.{◌≡◌, ℕ, ◌^◌, ◌≤◌, ℤ, Ok, to_bits, Float}
+use Rattle.std.specs.Prelude.{◌≡◌, ℕ, ◌^◌, ◌≤◌, ℤ, Bool, Ok, Err, Result, Decides, to_bits, Float}
 use Rattle.std.specs.Float.{binary64}
 use Rattle.models.specs.Answers.{Between, Encodes, Searches}
 use Rattle.models.specs.Meaning.{Meaning}
 use Rattle.measures.specs.Shares.{Likely}
 use Rattle.samples.specs.declared.claim.Claim.{Claim}
 use Rattle.samples.specs.declared.claim.Claim.TheVariants as claim
-use Rattle.conformance.specs.declared.judging.Verdict.{Verdict}
-use Rattle.conformance.specs.declared.judging.Verdict.TheVariants as verdict
+use Rattle.conformance.specs.declared.judging.Unjudged.{Unjudged}
+use Rattle.conformance.specs.declared.judging.Unjudged.TheVariants.{Misfits, Model, Distribution}
 
 -- the probability of z has these bits
 pub record LikelyBits (m : Meaning) (z : ℤ) (bits : ℕ) : Type 0 where
@@ -27,9 +27,13 @@ Strange least most width (claim.Encoded z said) = Between least most z → ⊥
 Strange least most width (claim.Searched q said) = 2 ^ width ≤ q
 Strange least most width (claim.Likely z bits) = Between least most z → ⊥
 
+-- whether a claim agrees with the model, or why it is not judged
+abbrev pub Verdict : Type 0
+Verdict = Result Bool Unjudged
+
 -- What is said of a claim about a model that was made.
 abbrev pub Judged : ℤ → ℤ → ℕ → Meaning → Claim → Verdict → Type 0
-Judged least most width m c verdict.Agrees = Stands m c
-Judged least most width m c verdict.Differs = Stands m c → ⊥
-Judged least most width m c verdict.Misfits = Strange least most width c
-Judged least most width m c (verdict.Refused number) = ⊥
+Judged least most width m c (Ok agrees) = Decides agrees (Stands m c)
+Judged least most width m c (Err Misfits) = Strange least most width c
+Judged least most width m c (Err (Model fault)) = ⊥
+Judged least most width m c (Err (Distribution fault)) = ⊥

@@ -1,7 +1,6 @@
 // Runs the figures of the rules, and replays a stored sample of the original's answers from standard input.
 #![tactic(auto)]
 
-mod constant;
 mod judging;
 mod replay;
 mod rules;

@@ -1,17 +1,17 @@
 // Runs a case on the models of this library, and judges what the original answered.
 ghost use Rattle.conformance.specs.Cases.{MakeTried, PeakTried, Replayed, SupportTried, UniformTried, width_of};
 
-use crate::constant::Constant;
-use crate::judging::{Verdict, judge};
+use crate::judging::{Unjudged, Verdict, judge};
 use distributions::peak::Peak;
+use models::bits::BitArray;
 use models::distribution::Inverse;
 use models::symbol::Symbol;
+use quantize::narrow::NarrowSymbol;
 use quantize::quantizer::LeakyQuantizer;
-use quantize::support::*;
-use samples::case::{Case, Guess, Quantized, SymbolType, Uniform, Width};
+use samples::case::{Case, Quantized, SymbolType, Uniform, Width};
 use samples::claim::Claim;
+use trials::misguided::Misguided;
 use uniform::model::UniformModel;
-use uniform::range::{EvenRange, UniformRange};
 
 // The verdict that the rules settle for a case.
 pub fn replay(case: Case) -> Verdict
@@ -28,64 +28,74 @@ fn of_uniform(model: Uniform, claim: Claim) -> Verdict
     ensures { UniformTried (width_of model.width) model claim result }
 {
     match model.width {
-        Width::Bits16 => on_range::<EvenRange<16>>(model, claim),
-        Width::Bits32 => on_range::<EvenRange<32>>(model, claim),
+        Width::Bits16 => on_range::<u16>(model, claim),
+        Width::Bits32 => on_range::<u32>(model, claim),
     }
 }
 
-fn on_range<R: UniformRange>(model: Uniform, claim: Claim) -> Verdict
-    ensures { UniformTried R.Probability.BitArray.width model claim result }
+fn on_range<P: BitArray>(model: Uniform, claim: Claim) -> Verdict
+    ensures { UniformTried P.width model claim result }
 {
-    match UniformModel::<R>::new(model.precision, model.range) {
-        Ok(made) => judge(&made, claim),
-        Err(fault) => Verdict::Refused(fault.number()),
-    }
+    let even = UniformModel::<P>::new(model.precision, model.range)?;
+    judge(&even, claim)
 }
 
-fn of_peak(model: Quantized, guess: Guess, claim: Claim) -> Verdict
+fn of_peak(model: Quantized, guess: Option<f64>, claim: Claim) -> Verdict
     ensures { PeakTried model claim result }
 {
-    let peak = match Peak::new(model.centre, model.scale) {
-        Ok(peak) => peak,
-        Err(fault) => return Verdict::Refused(fault.number()),
-    };
+    let peak = Peak::new(model.centre, model.scale)?;
     match guess {
-        Guess::Own => in_make(model, peak, claim),
-        Guess::Constant(guess) => in_make(model, Constant { peak, guess }, claim),
+        None => Question {
+            model,
+            distribution: peak,
+            claim,
+        }
+        .judged(),
+        Some(guess) => Question {
+            model,
+            distribution: Misguided::constant(peak, guess),
+            claim,
+        }
+        .judged(),
     }
 }
 
-// The eight makes of a quantizer.
-fn in_make<D: Inverse + Drop>(model: Quantized, distribution: D, claim: Claim) -> Verdict
-    ensures { MakeTried (D.Distribution.height distribution) model claim result }
-{
-    match (model.symbols, model.width) {
-        (SymbolType::I16, Width::Bits16) => on_support::<I16U16, D>(model, distribution, claim),
-        (SymbolType::I16, Width::Bits32) => on_support::<I16U32, D>(model, distribution, claim),
-        (SymbolType::U16, Width::Bits16) => on_support::<U16U16, D>(model, distribution, claim),
-        (SymbolType::U16, Width::Bits32) => on_support::<U16U32, D>(model, distribution, claim),
-        (SymbolType::I32, Width::Bits16) => on_support::<I32U16, D>(model, distribution, claim),
-        (SymbolType::I32, Width::Bits32) => on_support::<I32U32, D>(model, distribution, claim),
-        (SymbolType::U32, Width::Bits16) => on_support::<U32U16, D>(model, distribution, claim),
-        (SymbolType::U32, Width::Bits32) => on_support::<U32U32, D>(model, distribution, claim),
-    }
-}
-
-fn on_support<S: Support, D: Inverse + Drop>(
+// A claim about a quantized Peak, with the distribution that stands for the Peak.
+#[derive(Drop)]
+struct Question<D> {
     model: Quantized,
     distribution: D,
     claim: Claim,
-) -> Verdict
-    ensures { SupportTried S.Symbol.Symbol.least S.Symbol.Symbol.most S.Probability.BitArray.width (D.Distribution.height distribution) model claim result }
-{
-    let Some(min) = S::Symbol::from_whole(model.min) else {
-        return Verdict::Misfits;
-    };
-    let Some(max) = S::Symbol::from_whole(model.max) else {
-        return Verdict::Misfits;
-    };
-    match LeakyQuantizer::<S>::new(min, max, model.precision) {
-        Ok(quantizer) => judge(&quantizer.quantize(distribution), claim),
-        Err(fault) => Verdict::Refused(fault.number()),
+}
+
+// The eight makes of a quantizer: four symbol types, then two widths of each.
+impl<D: Inverse + Drop> Question<D> {
+    fn judged(self) -> Verdict
+        ensures { MakeTried (D.Distribution.height self.distribution) self.model self.claim result }
+    {
+        match self.model.symbols {
+            SymbolType::I16 => self.over::<i16>(),
+            SymbolType::U16 => self.over::<u16>(),
+            SymbolType::I32 => self.over::<i32>(),
+            SymbolType::U32 => self.over::<u32>(),
+        }
+    }
+
+    fn over<S: NarrowSymbol>(self) -> Verdict
+        ensures { SupportTried S.least S.most (width_of self.model.width) (D.Distribution.height self.distribution) self.model self.claim result }
+    {
+        match self.model.width {
+            Width::Bits16 => self.on_support::<S, u16>(),
+            Width::Bits32 => self.on_support::<S, u32>(),
+        }
+    }
+
+    fn on_support<S: NarrowSymbol, P: BitArray>(self) -> Verdict
+        ensures { SupportTried S.least S.most P.width (D.Distribution.height self.distribution) self.model self.claim result }
+    {
+        let min = S::from_whole(self.model.min).ok_or(Unjudged::Misfits)?;
+        let max = S::from_whole(self.model.max).ok_or(Unjudged::Misfits)?;
+        let quantizer = LeakyQuantizer::<S, P>::new(min, max, self.model.precision)?;
+        judge(&quantizer.quantize(self.distribution), self.claim)
     }
 }

@@ -1,16 +1,14 @@
 // The figures of the rules, each by the calls of the library.
 use crate::judging::{interval, row};
 use crate::show::{show_interval, show_lengths, show_made, show_row, show_starts};
-use anyhow::anyhow;
+use anyhow::Context;
 use distributions::peak::Peak;
 use distributions::profile::Profile;
 use figures::figures_stand;
 use measures::entropy::entropy_base2;
 use measures::logarithm::{Fine, Logarithm};
 use quantize::quantizer::{LeakilyQuantizedDistribution, LeakyQuantizer};
-use quantize::support::{I32U16, I32U32};
 use uniform::model::UniformModel;
-use uniform::range::EvenRange;
 
 // A Peak over i32 symbols.
 fn peaked(
@@ -19,13 +17,11 @@ fn peaked(
     min: i32,
     max: i32,
     precision: u32,
-) -> anyhow::Result<LeakilyQuantizedDistribution<I32U32, Peak>> {
-    let Ok(peak) = Peak::new(centre, scale) else {
-        return Err(anyhow!("a peak is refused"));
-    };
-    let Ok(quantizer) = LeakyQuantizer::<I32U32>::new(min, max, precision) else {
-        return Err(anyhow!("a support is refused"));
-    };
+) -> anyhow::Result<LeakilyQuantizedDistribution<i32, u32, Peak>> {
+    let peak = Peak::new(centre, scale).context("a peak is refused")?;
+    let quantizer = LeakyQuantizer::<i32, u32>::new(min, max, precision).context(
+        "a support is refused",
+    )?;
     Ok(quantizer.quantize(peak))
 }
 
@@ -45,46 +41,42 @@ fn show_peaks(rt: &HostRuntime) -> anyhow::Result<()> {
 fn show_profile(rt: &HostRuntime) -> anyhow::Result<()> {
     let knots = [0, 1, 4];
     let mut profile = Profile::built_in();
-    if profile.lay(0, 4, &knots).is_err() {
-        return Err(anyhow!("a profile is refused"));
-    }
-    let Ok(quantizer) = LeakyQuantizer::<I32U32>::new(0, 7, 4) else {
-        return Err(anyhow!("a support is refused"));
-    };
+    profile.lay(0, 4, &knots).context("a profile is refused")?;
+    let quantizer = LeakyQuantizer::<i32, u32>::new(0, 7, 4).context("a support is refused")?;
     let model = quantizer.quantize(profile);
     show_starts(rt, "Profile 0, 4, knots 0 1 4, P 4, 0 to 7", &model)
 }
 
 fn show_refusals(rt: &HostRuntime) -> anyhow::Result<()> {
-    show_made(rt, "P 4, 0 to 16", LeakyQuantizer::<I32U32>::new(0, 16, 4))?;
-    show_made(rt, "P 4, 5 to 5", LeakyQuantizer::<I32U32>::new(5, 5, 4))?;
+    show_made(
+        rt,
+        "P 4, 0 to 16",
+        LeakyQuantizer::<i32, u32>::new(0, 16, 4),
+    )?;
+    show_made(rt, "P 4, 5 to 5", LeakyQuantizer::<i32, u32>::new(5, 5, 4))?;
     show_made(
         rt,
         "u16, P 17, 0 to 3",
-        LeakyQuantizer::<I32U16>::new(0, 3, 17),
+        LeakyQuantizer::<i32, u16>::new(0, 3, 17),
     )?;
-    let even = UniformModel::<EvenRange<16>>::new(17, 3);
+    let even = UniformModel::<u16>::new(17, 3);
     show_made(rt, "uniform, u16, P 17, range 3", even)
 }
 
 fn show_uniform(rt: &HostRuntime) -> anyhow::Result<()> {
     let name = "uniform, u16, P 16, range 3";
-    let Ok(thirds) = UniformModel::<EvenRange<16>>::new(16, 3) else {
-        return Err(anyhow!("a range is refused"));
-    };
+    let thirds = UniformModel::<u16>::new(16, 3).context("a range is refused")?;
     show_lengths(rt, name, &thirds)?;
     show_interval(rt, name, 65_537, interval(&thirds, 65_537))?;
-    let wide = UniformModel::<EvenRange<32>>::new(4, 17);
+    let wide = UniformModel::<u32>::new(4, 17);
     show_made(rt, "uniform, P 4, range 17", wide)?;
-    let narrow = UniformModel::<EvenRange<32>>::new(4, 1);
+    let narrow = UniformModel::<u32>::new(4, 1);
     show_made(rt, "uniform, P 4, range 1", narrow)
 }
 
 fn show_measures(rt: &HostRuntime) -> anyhow::Result<()> {
-    let Ok(halves) = UniformModel::<EvenRange<32>>::new(4, 2) else {
-        return Err(anyhow!("a range is refused"));
-    };
-    let bits = entropy_base2::<UniformModel<EvenRange<32>>, Fine>(&halves);
+    let halves = UniformModel::<u32>::new(4, 2).context("a range is refused")?;
+    let bits = entropy_base2::<UniformModel<u32>, Fine>(&halves);
     println!(rt; "uniform, P 4, range 2: entropy {bits}")?;
     for n in [3, 8] {
         let value = Fine::log2(n);

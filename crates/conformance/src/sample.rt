@@ -1,64 +1,71 @@
 // Replays the sample: one case a line. Blank lines and lines that begin with # are passed over.
-use crate::judging::Verdict;
+use crate::judging::Unjudged;
 use crate::replay::replay;
-use samples::parse::parse;
+use samples::case::Case;
+use samples::parse::NotACase;
+use std::error::Error;
+use std::fmt;
 use std::io::{BufRead, BufReader};
 
-// what came of a line
-#[derive(Clone, Copy)]
-enum Outcome {
-    PassedOver,
-    // no case
-    Unread,
-    Judged(Verdict),
+// Why the answer of a line is not this library's own.
+#[derive(Clone, Copy, PartialEq, Eq, Debug)]
+enum Difference {
+    Unread(NotACase),
+    Unjudged(Unjudged),
+    Differs,
 }
 
-#[derive(Clone, Copy)]
+impl fmt::Display for Difference {
+    fn fmt<W: fmt::Write>(&self, f: &mut fmt::Formatter<W>) -> fmt::Result {
+        match self {
+            Difference::Unread(fault) => write!(f, "{fault}"),
+            Difference::Unjudged(fault) => write!(f, "{fault}"),
+            Difference::Differs => write!(f, "differs"),
+        }
+    }
+}
+
+impl Error for Difference {}
+
+impl From<NotACase> for Difference {
+    fn from(fault: NotACase) -> Difference {
+        Difference::Unread(fault)
+    }
+}
+
+impl From<Unjudged> for Difference {
+    fn from(fault: Unjudged) -> Difference {
+        Difference::Unjudged(fault)
+    }
+}
+
+fn compare(line: &str) -> Result<(), Difference> {
+    let case = line.parse::<Case>()?;
+    if replay(case)? {
+        Ok(())
+    } else {
+        Err(Difference::Differs)
+    }
+}
+
+fn is_passed_over(line: &str) -> bool {
+    line.trim().is_empty() || line.starts_with('#')
+}
+
+#[derive(Clone, Copy, Default)]
 struct Tally {
-    lines: u64,
     answers: u64,
     differences: u64,
 }
 
-fn outcome_of(line: &str) -> Outcome {
-    if line.trim().is_empty() || line.starts_with('#') {
-        return Outcome::PassedOver;
-    }
-    match parse(line) {
-        Some(case) => Outcome::Judged(replay(case)),
-        None => Outcome::Unread,
-    }
-}
-
-fn show_difference(
-    rt: &HostRuntime,
-    place: u64,
-    line: &str,
-    outcome: Outcome,
-) -> anyhow::Result<()> {
-    print!(rt; "sample: line {place}: {line}: ")?;
-    match outcome {
-        Outcome::Unread => println!(rt; "not read")?,
-        Outcome::Judged(Verdict::Refused(number)) => println!(rt; "refused {number}")?,
-        Outcome::Judged(Verdict::Misfits) => println!(rt; "not of the model's types")?,
-        _ => println!(rt; "differs")?,
-    }
-    Ok(())
-}
-
 impl Tally {
-    // Counts what came of a line, and prints it where it is the first that differs.
-    fn count(&mut self, rt: &HostRuntime, line: &str, outcome: Outcome) -> anyhow::Result<()> {
-        self.lines = self.lines.saturating_add(1);
-        match outcome {
-            Outcome::PassedOver => return Ok(()),
-            Outcome::Judged(Verdict::Agrees) => {}
-            _ => {
-                if self.differences == 0 {
-                    show_difference(rt, self.lines, line, outcome)?;
-                }
-                self.differences = self.differences.saturating_add(1);
+    // Counts the answer of a line, and prints it where it is the first that differs.
+    fn count(&mut self, rt: &HostRuntime, place: u64, line: &str) -> anyhow::Result<()> {
+        if let Err(difference) = compare(line) {
+            if self.differences == 0 {
+                println!(rt; "sample: line {place}: {line}: {difference}")?;
             }
+            self.differences = self.differences.saturating_add(1);
         }
         self.answers = self.answers.saturating_add(1);
         Ok(())
@@ -67,17 +74,18 @@ impl Tally {
 
 // Prints how many answers there are and how many differ, and the first of these.
 pub fn replay_sample(rt: &HostRuntime) -> anyhow::Result<()> {
-    let mut tally = Tally {
-        lines: 0,
-        answers: 0,
-        differences: 0,
-    };
-    for line in BufReader::new(rt.alloc(), rt.stdin())?.lines(rt.alloc()) {
+    let mut tally = Tally::default();
+    let lines = BufReader::new(rt.alloc(), rt.stdin())?.lines(rt.alloc());
+    for (place, line) in (1u64..).zip(lines) {
         let line = line?;
-        tally.count(rt, line.as_str(), outcome_of(line.as_str()))?;
+        if !is_passed_over(&line) {
+            tally.count(rt, place, &line)?;
+        }
     }
-    let answers = tally.answers;
-    let differences = tally.differences;
+    let Tally {
+        answers,
+        differences,
+    } = tally;
     println!(rt; "sample: {answers} answers, {differences} differ")?;
     Ok(())
 }

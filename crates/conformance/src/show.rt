@@ -2,6 +2,9 @@
 use models::bits::BitArray;
 use models::fault::ModelFault;
 use models::model::{EntropyModel, IterableEntropyModel};
+use models::table::Rows;
+use std::fmt;
+use std::fmt::Display;
 
 // The start of each row, from the first on.
 pub fn show_starts<M: IterableEntropyModel>(
@@ -9,16 +12,7 @@ pub fn show_starts<M: IterableEntropyModel>(
     name: &str,
     model: &M,
 ) -> anyhow::Result<()> {
-    print!(rt; "{name}: starts")?;
-    for index in 0..usize::MAX {
-        let Some((_, start, _)) = model.symbol_table(index) else {
-            break;
-        };
-        let start = start.to_u64();
-        print!(rt; " {start}")?;
-    }
-    println!(rt; "")?;
-    Ok(())
+    show_column(rt, format_args!("{name}: starts"), model, |start, _| start)
 }
 
 // The length of each row, from the first on.
@@ -27,16 +21,36 @@ pub fn show_lengths<M: IterableEntropyModel>(
     name: &str,
     model: &M,
 ) -> anyhow::Result<()> {
-    print!(rt; "{name}: lengths")?;
-    for index in 0..usize::MAX {
-        let Some((_, _, length)) = model.symbol_table(index) else {
-            break;
-        };
-        let length = length.to_u64();
-        print!(rt; " {length}")?;
+    show_column(rt, format_args!("{name}: lengths"), model, |_, length| {
+        length
+    })
+}
+
+// What is taken of the start and the length of each row.
+fn show_column<M, C, F>(rt: &HostRuntime, column: C, model: &M, take: F) -> anyhow::Result<()>
+where
+    M: IterableEntropyModel,
+    C: Display + Drop,
+    F: Fn(M::Probability, M::Probability) -> M::Probability + Drop,
+    requires { F.IsAlwaysCallable take }
+{
+    print!(rt; "{column}")?;
+    for (_, start, length) in Rows::of(model) {
+        print!(rt; " {}", take(start, length).to_u64())?;
     }
     println!(rt; "")?;
     Ok(())
+}
+
+// A row, as it is printed.
+#[derive(Clone, Copy)]
+struct Row((i128, u64, u64));
+
+impl Display for Row {
+    fn fmt<W: fmt::Write>(&self, f: &mut fmt::Formatter<W>) -> fmt::Result {
+        let Row((symbol, start, length)) = self;
+        write!(f, "{symbol} {start} {length}")
+    }
 }
 
 // The row of a quantile, as it came.
@@ -46,14 +60,31 @@ pub fn show_row(
     quantile: u32,
     came: Result<(i128, u64, u64), ModelFault>,
 ) -> anyhow::Result<()> {
+    show_answer(
+        rt,
+        format_args!("{name}, quantile {quantile}"),
+        came.map(Row),
+    )
+}
+
+// What a maker said.
+pub fn show_made<T: Drop>(
+    rt: &HostRuntime,
+    name: &str,
+    made: Result<T, ModelFault>,
+) -> anyhow::Result<()> {
+    show_answer(rt, name, made.map(|_| "made"))
+}
+
+// An answer, or the number of the refusal.
+fn show_answer<C: Display + Drop, T: Display + Drop>(
+    rt: &HostRuntime,
+    asked: C,
+    came: Result<T, ModelFault>,
+) -> anyhow::Result<()> {
     match came {
-        Ok((symbol, start, length)) => println!(rt;
-            "{name}, quantile {quantile}: {symbol} {start} {length}"
-        )?,
-        Err(fault) => {
-            let number = fault.number();
-            println!(rt; "{name}, quantile {quantile}: refused {number}")?;
-        }
+        Ok(answer) => println!(rt; "{asked}: {answer}")?,
+        Err(fault) => println!(rt; "{asked}: refused {}", fault.number())?,
     }
     Ok(())
 }
@@ -68,22 +99,6 @@ pub fn show_interval(
     match came {
         Some((start, length)) => println!(rt; "{name}, symbol {symbol}: {start} {length}")?,
         None => println!(rt; "{name}, symbol {symbol}: outside")?,
-    }
-    Ok(())
-}
-
-// What a maker said.
-pub fn show_made<T: Drop>(
-    rt: &HostRuntime,
-    name: &str,
-    made: Result<T, ModelFault>,
-) -> anyhow::Result<()> {
-    match made {
-        Ok(_) => println!(rt; "{name}: made")?,
-        Err(fault) => {
-            let number = fault.number();
-            println!(rt; "{name}: refused {number}")?;
-        }
     }
     Ok(())
 }

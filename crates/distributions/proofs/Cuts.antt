@@ -1,11 +1,15 @@
 -- Orders of floats and of what a cast leaves of them. Assumes nothing.
-use Rattle.std.proofs.Common.{◌≡◌, ℕ, ◌+◌, ◌-◌, ◌*◌, ◌/◌, ◌^◌, ◌<◌, ◌≤◌, min, true, false, T, pos, sym, refl, ◌∙◌, subst, inl, inr, true≢false, le_trans, mul-le-mul_right, div-mul-le_self, arith, lit<}
+use Rattle.std.proofs.Common.{◌≡◌, ℕ, ◌+◌, ◌-◌, ◌*◌, ◌/◌, ◌^◌, ◌<◌, ◌≤◌, min, Bool, true, false, cond, ◌&&◌, ◌||◌, T, pos, sym, refl, ◌∙◌, subst, inl, inr, true≢false, le_trans, mul-le-mul_right, div-mul-le_self, arith, lit<}
+use Rattle.std.proofs.Common.{Less, Equal, Greater}
+use Rattle.std.specs.Prelude.{Some, None}
+use Rattle.std.specs.Ordering.{is_le, is_some_and, partial_le, partial_lt, float_partial_cmp}
 use native.Mathlib.Nat.{min-le_left}
-use lib.Ieee.{Float, nan, inf, fin, Format, up, down, le, lt, of_int, to_unsigned, fits, prec, is_nan, sub, add, neg}
+use lib.Ieee.{Float, nan, inf, fin, Format, up, down, le, lt, eq, of_int, to_unsigned, fits, prec, is_nan, sub, add, neg}
 use lib.Ieee.Scale.{finite}
 use lib.Ieee.Back.{unsigned_back}
 use Rattle.std.proofs.lemmas.Bool.{cases_Bool}
 use Rattle.rounding.specs.Fractions.{nought, plus, less, Under}
+use Rattle.distributions.specs.Peak.{within}
 use Rattle.rounding.proofs.Order.{lt→not_le, not_lt→le, le_trans as float-trans, left_number, right_number, le_refl, finite_number}
 use Rattle.rounding.proofs.Rounded.{rounds_under}
 use Rattle.rounding.proofs.Sums.{nothing_less, sub_rises}
@@ -56,3 +60,17 @@ sub_number f (inf s) nan h p = absurd p
 sub_number f (inf s) (inf t) h p = absurd p
 sub_number f (inf s) (fin t n d) h p = refl
 sub_number f (fin s m e) y h p = left_number (sub f (fin s m e) y) (sub f (fin s m e) y) (sub_rises f (fin s m e) (fin s m e) y y tt tt p p (le_refl (fin s m e) refl) (le_refl y (finite_number y p)))
+
+-- ---- `contains` of a range of floats goes by `<=`
+some_order : (a e b : Bool) → is_some_and is_le (cond a (Some Less) (cond e (Some Equal) (cond b (Some Greater) None))) ≡ (a || e)
+some_order true e b = refl
+some_order false true b = refl
+some_order false false true = refl
+some_order false false false = refl
+
+partial_le_is : (x y : Float) → partial_le float_partial_cmp x y ≡ le x y
+unfolding le
+partial_le_is x y = some_order (lt x y) (eq x y) (lt y x)
+
+pub range_tells : (low high x from to : Float) (spent : Bool) → from ≡ low → to ≡ high → spent ≡ false → (partial_le float_partial_cmp from x && cond spent (partial_lt float_partial_cmp x to) (partial_le float_partial_cmp x to)) ≡ within low high x
+range_tells low high x from to spent f t s = rw (f, t, s, partial_le_is low x, partial_le_is x high) refl

@@ -7,4 +7,4 @@ abbrev pub parts_of : Profile → Parts
 parts_of d = parts d.start d.width d.knots.now
 
 pub sound_of : (d : Profile) → Sound (parts_of d).width (parts_of d).knots
-sound_of d = record { counted = record { some = d.some; most = d.many }; wide = record { some = d.wide; most = d.bounded }; first = d.first; rising = d.rising; last = d.last }
+sound_of d = d.sound

@@ -3,7 +3,7 @@
 use Rattle.std.specs.Prelude.{◌≡◌, true, false, cond, pos, refl, Float}
 use Rattle.std.proofs.Common.{sym, ◌∙◌, true≢false}
 use Rattle.std.specs.Float.Ieee.{le, lt, neg}
-use Rattle.std.proofs.lemmas.Bool.{cond_both}
+use Rattle.std.proofs.lemmas.Bool.{cond_both, and_parts}
 use Rattle.models.specs.Heights.{InReach, Lawful}
 use Rattle.rounding.specs.Fractions.{nought, half, one, power}
 use Rattle.rounding.specs.Order.{Between}
@@ -11,7 +11,7 @@ use Rattle.rounding.specs.Ranges.{Centre, Scale, Away, tail, crest}
 use Rattle.rounding.specs.Wholes.{OnLine}
 use Rattle.rounding.proofs.Laws.{order_laws, range_laws}
 use Rattle.rounding.proofs.Order.{finite_number, right_number}
-use Rattle.distributions.specs.Peak.{lowest, highest, narrowest, widest, scaled, mass_at, height_at}
+use Rattle.distributions.specs.Peak.{lowest, highest, narrowest, widest, within, in_limits, scaled, mass_at, height_at}
 
 -- a scaled distance goes no further than 2 ^ 61 either way
 abbrev Near : Float → Type 0
@@ -74,3 +74,11 @@ peak_lawful m s h k i j =
       to = λ x r. mass_to (scaled m s x) (near x r);
       rises = λ x y r q l. mass_rises (scaled m s x) (scaled m s y) (near x r) (near y q) (range_laws.rises x y m s (on x r) (on y q) centre scale l);
     }
+
+-- the same by the test of both limits
+pub limits_lawful : (m s : Float) → in_limits m s ≡ true → Lawful (height_at m s)
+limits_lawful m s h =
+    let both = and_parts (within lowest highest m) (within narrowest widest s) h in
+    let centre = and_parts (le lowest m) (le m highest) both.0 in
+    let scale = and_parts (le narrowest s) (le s widest) both.1 in
+    peak_lawful m s centre.0 centre.1 scale.0 scale.1

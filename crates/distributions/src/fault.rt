@@ -1,6 +1,9 @@
 // The refusals of the distribution layer, and what each is called.
-ghost use Rattle.std.specs.Prelude.{◌≡◌};
-ghost use Rattle.distributions.specs.Faults.{layer_of, number_of, place_of};
+ghost use Rattle.std.specs.Prelude.{◌≡◌, Some};
+ghost use Rattle.distributions.specs.Faults.{layer_of, number_of, place_of, word_of};
+
+use std::error::Error;
+use std::fmt;
 
 #[derive(Clone, Copy, PartialEq, Eq, Debug)]
 pub enum DistributionFault {
@@ -35,3 +38,16 @@ impl DistributionFault {
         }
     }
 }
+
+impl fmt::Display for DistributionFault {
+    ghost output = { λ f. Some (word_of f) };
+
+    fn fmt<W: fmt::Write>(&self, f: &mut fmt::Formatter<W>) -> fmt::Result {
+        f.write_str(match self {
+            DistributionFault::Shape => "shape",
+            DistributionFault::Knots(_) => "knots",
+        })
+    }
+}
+
+impl Error for DistributionFault {}

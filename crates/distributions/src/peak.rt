@@ -1,10 +1,9 @@
 // Peak: one bump around a centre. Half the mass lies on each side.
 mod heights;
 
-ghost use Rattle.std.specs.Float.Ieee.{le};
 ghost use Rattle.std.specs.Prelude.{◌≡◌, true};
 ghost use Rattle.models.specs.Answers.{Makes};
-ghost use Rattle.distributions.specs.Peak.{lowest, highest, narrowest, widest, within, in_limits, refusal, Shaped};
+ghost use Rattle.distributions.specs.Peak.{in_limits, refusal, Shaped};
 
 use crate::fault::DistributionFault;
 
@@ -18,23 +17,13 @@ const NARROW: f64 = 1.0 / 1048576.0;
 pub struct Peak {
     centre: f64,
     scale: f64,
-    ghost from: { le lowest centre ≡ true },
-    ghost to: { le centre highest ≡ true },
-    ghost wide: { le narrowest scale ≡ true },
-    ghost bounded: { le scale widest ≡ true },
-}
-
-// x is a number from low to high.
-fn between(low: f64, x: f64, high: f64) -> bool
-    ensures { result ≡ within low high x }
-{
-    low <= x && x <= high
+    ghost limits: { in_limits centre scale ≡ true },
 }
 
 fn in_limits(centre: f64, scale: f64) -> bool
     ensures { result ≡ in_limits centre scale }
 {
-    between(-FAR, centre, FAR) && between(NARROW, scale, FAR)
+    (-FAR..=FAR).contains(&centre) && (NARROW..=FAR).contains(&scale)
 }
 
 impl Peak {

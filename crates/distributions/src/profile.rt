@@ -2,7 +2,8 @@
 mod heights;
 mod rules;
 
-ghost use Rattle.std.specs.Prelude.{◌≡◌, ℕ, ◌-◌, ◌^◌, ◌<◌, ◌≤◌, length, pos, negsuc, ◌≤ℤ◌, slice_index};
+ghost use Rattle.std.specs.Prelude.{◌-◌, ◌^◌, ◌<◌, length, pos, negsuc, ◌≤ℤ◌, slice_index};
+ghost use Rattle.distributions.specs.Tables.{Sound};
 
 #[derive(Drop)]
 pub struct Profile<'a> {
@@ -13,12 +14,5 @@ pub struct Profile<'a> {
     ghost low: { negsuc 2147483647 ≤ℤ start },
     ghost high: { start ≤ℤ pos 2147483647 },
     ghost held: { slice_index knots.now (length knots.now - 1) < 2 ^ 32 },
-    // the rules
-    ghost some: { 2 ≤ length knots.now },
-    ghost many: { length knots.now ≤ 1025 },
-    ghost wide: { 1 ≤ width },
-    ghost bounded: { width ≤ 65536 },
-    ghost first: { slice_index knots.now 0 ≡ 0 },
-    ghost rising: { (i : ℕ) → i < length knots.now → slice_index knots.now (i - 1) ≤ slice_index knots.now i },
-    ghost last: { 0 < slice_index knots.now (length knots.now - 1) },
+    ghost sound: { Sound width knots.now },
 }

@@ -1,4 +1,4 @@
-// Heights, guesses and refusals at the ends of their ranges; the expected values were computed apart.
+// Heights, guesses, refusals and their words, at the ends of their ranges; the expected values were computed apart.
 use crate::fault::DistributionFault;
 use crate::peak::Peak;
 use crate::profile::Profile;
@@ -15,10 +15,7 @@ const PAST_FAR: f64 = 1099511627776.000244140625;
 const PAST_NARROW: f64 = 9007199254740991.0 / 9444732965739290427392.0;
 
 fn peak_answers(centre: f64, scale: f64, x: f64, height: f64, p: f64, guess: f64) -> bool {
-    let Ok(d) = Peak::new(centre, scale) else {
-        return false;
-    };
-    d.distribution(x) == height && d.inverse(p) == guess
+    Peak::new(centre, scale).is_ok_and(|d| d.distribution(x) == height && d.inverse(p) == guess)
 }
 
 #[test]
@@ -35,9 +32,7 @@ fn peaks(rt: HostRuntime) -> Result<(), Fail> {
     ] {
         assert!(rt; peak_answers(0.5, 3.0, x, height, p, guess));
     }
-    let Ok(d) = Peak::new(0.5, 3.0) else {
-        return Err(Fail::new("refused"));
-    };
+    let d = Peak::new(0.5, 3.0)?;
     assert!(rt; d.distribution(f64::NAN).is_nan() && d.inverse(f64::NAN).is_nan());
     assert!(rt; peak_answers(-FAR, NARROW, -FAR, 0.5, 0.5, -FAR));
     assert!(rt; peak_answers(-0.0, FAR, -0.0, 0.5, 0.5, 0.0));
@@ -94,4 +89,15 @@ fn profiles(rt: HostRuntime) {
     ] {
         assert!(rt; profile_answers(&d, x, height, p, guess));
     }
+}
+
+#[test]
+fn words(rt: HostRuntime) -> Result<(), Fail> {
+    for (fault, word) in [
+        (DistributionFault::Shape, "shape"),
+        (DistributionFault::Knots(2), "knots"),
+    ] {
+        assert_eq!(rt; fault.to_string(rt.alloc())?.as_str(), word);
+    }
+    Ok(())
 }

@@ -1,13 +1,12 @@
 // How far the entropies by the fine logarithm lie from the formulas with the C library's log2, over the rows of some models.
 #![tactic(auto)]
 
-use anyhow::anyhow;
+use anyhow::Context;
 use channel::walk::Channel;
 use distributions::peak::Peak;
 use measures::logarithm::Fine;
 use quantize::quantizer::LeakyQuantizer;
-use quantize::support::I32U32;
-use std::alloc::{AllocError, Global};
+use std::alloc::Global;
 
 // A model, and what the formulas give over its rows: the entropy, and the cross entropy with one weight for every row.
 // They were computed in another language, from rows that it computed itself.
@@ -106,42 +105,28 @@ const CASES: [Case; 9] = [
     },
 ];
 
-fn distance(a: f64, b: f64) -> f64 {
-    if a < b { b - a } else { a - b }
-}
-
-fn larger(a: f64, b: f64) -> f64 {
-    if a < b { b } else { a }
-}
-
-// One weight for each row, which sum to 1 or a little less or more.
-fn weights(heap: Global, rows: u32) -> Result<Vec<f64>, AllocError> {
-    let mut weights = Vec::new(heap);
-    for _ in 0..rows {
-        weights.push(1.0 / rows as f64)?;
-    }
-    Ok(weights)
-}
-
-// The larger of a model's two distances.
+// The larger of a model's two distances. The weights are one for each row, and sum to 1 or a little less or more.
 fn measure(heap: Global, case: Case) -> anyhow::Result<f64> {
-    let Ok(quantizer) = LeakyQuantizer::<I32U32>::new(case.min, case.max, case.precision) else {
-        return Err(anyhow!("a support is refused"));
-    };
-    let Ok(peak) = Peak::new(case.centre, case.scale) else {
-        return Err(anyhow!("a peak is refused"));
-    };
+    let quantizer = LeakyQuantizer::<i32, u32>::new(case.min, case.max, case.precision).context(
+        "a support is refused",
+    )?;
+    let peak = Peak::new(case.centre, case.scale).context("a peak is refused")?;
     let channel = Channel::open(quantizer.quantize(peak));
-    let weights = weights(heap, case.max.abs_diff(case.min).saturating_add(1))?;
+    let rows = case.max.abs_diff(case.min).saturating_add(1);
+    let weights = vec![in heap; 1.0 / f64::from(rows); rows as usize]?;
     let entropy = channel.entropy_base2::<Fine>();
     let cross = channel.cross_entropy_base2::<Fine>(&weights);
-    Ok(larger(distance(entropy, case.entropy), distance(cross, case.cross)))
+    Ok(
+        (entropy - case.entropy)
+            .abs()
+            .max((cross - case.cross).abs()),
+    )
 }
 
 fn run(rt: &HostRuntime) -> anyhow::Result<()> {
     let mut largest = 0.0;
     for case in CASES {
-        largest = larger(largest, measure(rt.alloc(), case)?);
+        largest = measure(rt.alloc(), case)?.max(largest);
     }
     let within = largest < 1.0 / 16384.0;
     println!(rt; "largest distance {largest}, within 2^-14: {within}")?;

@@ -6,7 +6,7 @@ use Rattle.histories.specs.Logs.{event_of, untunable}
 use Rattle.channel.specs.Steps.{State, Step, Run}
 use Rattle.histories.specs.declared.replay.Entry.{Entry}
 use Rattle.histories.specs.declared.replay.Entry.TheVariants.{Encoded, Searched, Likely, Tabled, Measured, Stepped, Filled, Rewound, Retuned}
-use Rattle.channel.specs.declared.tune.Never.{Never}
+use Rattle.std.specs.declared.convert.Infallible.{Infallible}
 
 run_more : (s t u : State) (es : List Event) (e : Event) → Run s es t → Step t e u → Run s (es ++ e ∷ []) u
 run_more s t u [] e run step = (u, subst (λ (x : State). Step x e u) run step, refl)
@@ -29,7 +29,7 @@ module _ {A : Type 0} (event : A → Event) (xs ys : List A) (x : A) (grown : ys
 
 -- a log with nothing to tune by has no retune
 pub never_tuned :
-    {S P : Type 0} (whole : S → ℤ) (value : P → ℕ) (log : List (Entry S P Never)) → Untuned (map (event_of whole value untunable) log)
+    {S P : Type 0} (whole : S → ℤ) (value : P → ℕ) (log : List (Entry S P Infallible)) → Untuned (map (event_of whole value untunable) log)
 never_tuned whole value [] = tt
 never_tuned whole value (Encoded s a ∷ log) = (refl, never_tuned whole value log)
 never_tuned whole value (Searched q a ∷ log) = (refl, never_tuned whole value log)

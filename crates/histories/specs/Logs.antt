@@ -11,10 +11,10 @@ use Rattle.histories.specs.declared.replay.Entry.{Entry}
 use Rattle.histories.specs.declared.replay.Entry.TheVariants.{Encoded, Searched, Likely, Tabled, Measured, Stepped, Filled, Rewound, Retuned}
 use Rattle.histories.specs.declared.replay.Page.{Page}
 use Rattle.histories.specs.declared.replay.Slots.{Slots}
-use Rattle.channel.specs.declared.tune.Never.{Never}
+use Rattle.std.specs.declared.convert.Infallible.{Infallible}
 
 -- what tunes a model that cannot be tuned: nothing
-abbrev pub untunable : Never → Height
+abbrev pub untunable : Infallible → Height
 untunable never = elim never [ ]
 
 -- the call that an entry answers

@@ -8,19 +8,19 @@ ghost use Rattle.histories.specs.Logs.{call_of, event_of, page_event, untunable}
 ghost use Rattle.histories.specs.Openings.{opening_of};
 ghost use Rattle.histories.specs.Tunings.{Retunes};
 ghost use Rattle.histories.specs.Promises.{opened, EveryHistory, EveryUniformHistory, TwoEnds};
-ghost use Rattle.channel.specs.Steps.{at, Run, Step};
+ghost use Rattle.channel.specs.Steps.{at, state_of, Run, Step};
 
-use channel::tune::Never;
 use channel::walk::Channel;
 use measures::logarithm::Fine;
+use models::bits::BitArray;
 use models::distribution::{Distribution, Inverse};
 use models::fault::ModelFault;
 use models::model::{DecoderModel, EncoderModel, EntropyModel, IterableEntropyModel};
+use quantize::narrow::NarrowSymbol;
 use quantize::quantizer::{LeakilyQuantizedDistribution, LeakyQuantizer};
-use quantize::support::Support;
 use std::alloc::{AllocError, Global};
+use std::convert::Infallible;
 use uniform::model::UniformModel;
-use uniform::range::UniformRange;
 
 // The three buffers that a fill is lent: their sizes, and what they hold before.
 #[derive(Clone, Copy)]
@@ -69,7 +69,7 @@ pub enum Entry<S, P, T> {
     Retuned(T),
 }
 
-// A buffer of n times x.
+// A buffer of n times x. `vec![in heap; x; n]` fills with clones, and a bound does not say that they are x.
 fn blank<T: Copy>(heap: Global, x: T, n: usize) -> Result<Vec<T>, AllocError>
     ensures { IfOk result (λ v. v.items ≡ replicate n x) }
 {
@@ -87,7 +87,7 @@ fn fill_page<M: IterableEntropyModel>(
     slots: Slots<M::Symbol, M::Probability>,
 ) -> Result<Page<M::Symbol, M::Probability>, AllocError>
     ensures model { channel.new.model ≡ channel.old.model }
-    ensures step { IfOk result (λ page. Step (at (M.EntropyModel.meaning channel.old.model) channel.old.row) (page_event M.Symbol.Symbol.whole M.Probability.BitArray.value slots page) (at (M.EntropyModel.meaning channel.new.model) channel.new.row)) }
+    ensures step { IfOk result (λ page. Step (state_of M.meaning channel.old) (page_event M.Symbol.whole M.Probability.value slots page) (state_of M.meaning channel.new)) }
 {
     let mut symbols = blank(heap, slots.symbol, slots.symbols)?;
     let mut starts = blank(heap, slots.probability, slots.starts)?;
@@ -111,16 +111,17 @@ trait Replayed: EncoderModel + DecoderModel + IterableEntropyModel {
     fn retune(channel: &mut Channel<Self>, tuning: Option<Self::Tuning>)
     where
         Self: Sized + Drop,
-        ensures { Retunes (λ c. at (Self.EntropyModel.meaning c.model) c.row) heights tuning channel.old channel.new };
+        ensures { Retunes (state_of Self.EntropyModel.meaning) heights tuning channel.old channel.new };
 }
 
-impl<S: Support, D: Inverse + Drop> Replayed for LeakilyQuantizedDistribution<S, D> {
+impl<S: NarrowSymbol, P: BitArray, D: Inverse + Drop> Replayed
+    for LeakilyQuantizedDistribution<S, P, D> {
     type Tuning = D;
 
     ghost heights = { D.Distribution.height };
 
-    fn retune(channel: &mut Channel<LeakilyQuantizedDistribution<S, D>>, tuning: Option<D>)
-        ensures { Retunes (λ c. at (means (S.Support.covered c.model.quantizer.support) (D.Distribution.height c.model.inner)) c.row) D.Distribution.height tuning channel.old channel.new }
+    fn retune(channel: &mut Channel<LeakilyQuantizedDistribution<S, P, D>>, tuning: Option<D>)
+        ensures { Retunes (state_of (λ m. means m.quantizer.extent (D.height m.inner))) D.height tuning channel.old channel.new }
     {
         if let Some(distribution) = tuning {
             channel.retune(distribution);
@@ -129,13 +130,13 @@ impl<S: Support, D: Inverse + Drop> Replayed for LeakilyQuantizedDistribution<S,
 }
 
 // A uniform model has no distribution to take.
-impl<R: UniformRange> Replayed for UniformModel<R> {
-    type Tuning = Never;
+impl<P: BitArray> Replayed for UniformModel<P> {
+    type Tuning = Infallible;
 
     ghost heights = { untunable };
 
-    fn retune(channel: &mut Channel<UniformModel<R>>, tuning: Option<Never>)
-        ensures { Retunes (λ c. at (uniform (R.UniformRange.bits c.model.range) (R.UniformRange.count c.model.range)) c.row) untunable tuning channel.old channel.new }
+    fn retune(channel: &mut Channel<UniformModel<P>>, tuning: Option<Infallible>)
+        ensures { Retunes (state_of (λ m. uniform m.precision m.range)) untunable tuning channel.old channel.new }
     {
         match tuning {
             None => {}
@@ -153,7 +154,7 @@ fn apply<M: Replayed + Drop>(
 where
     M::Tuning: Copy,
     ensures call { IfOk result (λ entry. call_of entry ≡ call.now) }
-    ensures step { IfOk result (λ entry. Step (at (M.EntropyModel.meaning channel.old.model) channel.old.row) (event_of M.Symbol.Symbol.whole M.Probability.BitArray.value M.Replayed.heights entry) (at (M.EntropyModel.meaning channel.new.model) channel.new.row)) }
+    ensures step { IfOk result (λ entry. Step (state_of M.meaning channel.old) (event_of M.Symbol.whole M.Probability.value M.Replayed.heights entry) (state_of M.meaning channel.new)) }
 {
     match call {
         Call::Encode(symbol) => Ok(Entry::Encoded(*symbol, channel.encode(*symbol))),
@@ -190,7 +191,7 @@ where
     M::Tuning: Copy,
     ensures calls { IfOk result (λ log. map call_of log.items ≡ calls.now) }
     ensures succeeds { length calls.now ≡ 0 → is_ok result ≡ true }
-    ensures run { IfOk result (λ log. Run (at (M.EntropyModel.meaning channel.old.model) channel.old.row) (map (event_of M.Symbol.Symbol.whole M.Probability.BitArray.value M.Replayed.heights) log.items) (at (M.EntropyModel.meaning channel.new.model) channel.new.row)) }
+    ensures run { IfOk result (λ log. Run (state_of M.meaning channel.old) (map (event_of M.Symbol.whole M.Probability.value M.Replayed.heights) log.items) (state_of M.meaning channel.new)) }
 {
     let mut log = Vec::new(heap);
     for call in calls {
@@ -205,21 +206,21 @@ where
 // and any list of calls, keeps to the intervals of the channel's support, precision and latest heights, and hands out its first rows.
 // And what one end encodes, any other end of equal support, precision and heights finds again.
 // Only the log and the buffers of fills take memory: want of it is the one error, and no calls want none.
-pub fn replay<S: Support, D: Inverse + Copy>(
+pub fn replay<S: NarrowSymbol, P: BitArray, D: Inverse + Copy>(
     heap: Global,
-    quantizer: LeakyQuantizer<S>,
+    quantizer: LeakyQuantizer<S, P>,
     distribution: D,
-    calls: &[Call<S::Symbol, S::Probability, D>],
+    calls: &[Call<S, P, D>],
 ) -> Result<
     (
-        Channel<LeakilyQuantizedDistribution<S, D>>,
-        Vec<Entry<S::Symbol, S::Probability, D>>,
+        Channel<LeakilyQuantizedDistribution<S, P, D>>,
+        Vec<Entry<S, P, D>>,
     ),
     AllocError,
 >
     ensures calls { IfOk result (λ o. map call_of o.1.items ≡ calls.now) }
     ensures succeeds { length calls.now ≡ 0 → is_ok result ≡ true }
-    ensures run { IfOk result (λ o. Run (opened (opening_of (S.Support.covered quantizer.support) (D.Distribution.height distribution) (D.Distribution.lawful distribution))) (map (event_of S.Symbol.Symbol.whole S.Probability.BitArray.value D.Distribution.height) o.1.items) (at (means (S.Support.covered o.0.model.quantizer.support) (D.Distribution.height o.0.model.inner)) o.0.row)) }
+    ensures run { IfOk result (λ o. Run (opened (opening_of quantizer.extent (D.Distribution.height distribution) (D.Distribution.lawful distribution))) (map (event_of S.whole P.value D.Distribution.height) o.1.items) (at (means o.0.model.quantizer.extent (D.Distribution.height o.0.model.inner)) o.0.row)) }
     ensures histories { EveryHistory }
     ensures ends { TwoEnds }
 {
@@ -228,22 +229,16 @@ pub fn replay<S: Support, D: Inverse + Copy>(
     Ok((channel, log))
 }
 
-// The same of a uniform channel, whose calls have no retune.
-pub fn replay_uniform<R: UniformRange>(
+// The same of a uniform channel, whose calls have no retune. Both are one `run`; what they promise of it differs.
+pub fn replay_uniform<P: BitArray>(
     heap: Global,
-    model: UniformModel<R>,
-    calls: &[Call<usize, R::Probability, Never>],
-) -> Result<
-    (
-        Channel<UniformModel<R>>,
-        Vec<Entry<usize, R::Probability, Never>>,
-    ),
-    AllocError,
->
+    model: UniformModel<P>,
+    calls: &[Call<usize, P, Infallible>],
+) -> Result<(Channel<UniformModel<P>>, Vec<Entry<usize, P, Infallible>>), AllocError>
     ensures calls { IfOk result (λ o. map call_of o.1.items ≡ calls.now) }
     ensures succeeds { length calls.now ≡ 0 → is_ok result ≡ true }
-    ensures run { IfOk result (λ o. Run (at (uniform (R.UniformRange.bits model.range) (R.UniformRange.count model.range)) 0) (map (event_of pos R.Probability.BitArray.value untunable) o.1.items) (at (uniform (R.UniformRange.bits o.0.model.range) (R.UniformRange.count o.0.model.range)) o.0.row)) }
-    ensures untuned { IfOk result (λ o. Untuned (map (event_of pos R.Probability.BitArray.value untunable) o.1.items)) }
+    ensures run { IfOk result (λ o. Run (at (uniform model.precision model.range) 0) (map (event_of pos P.value untunable) o.1.items) (at (uniform o.0.model.precision o.0.model.range) o.0.row)) }
+    ensures untuned { IfOk result (λ o. Untuned (map (event_of pos P.value untunable) o.1.items)) }
     ensures histories { EveryUniformHistory }
 {
     let mut channel = Channel::open(model);

@@ -1,5 +1,5 @@
 -- The entropies from the floats that a call makes of whole numbers. Assumes nothing.
-use Rattle.std.proofs.Common.{◌≡◌, ℕ, suc, ◌+◌, ◌*◌, ◌^◌, ◌<◌, ◌≤◌, List, get_or, sym, refl, ap, ◌∙◌, inl, inr, arith, pow-add}
+use Rattle.std.proofs.Common.{◌≡◌, ℕ, suc, ◌+◌, ◌*◌, ◌^◌, ◌<◌, ◌≤◌, List, ◌∷◌, length, get_or, drop, length-drop, drop-cons, sym, refl, ap, ◌∙◌, inl, inr, arith, pow-add}
 use lib.Ieee.{Float, binary64, of_bits, of_int, add, sub, mul, div}
 use Rattle.models.specs.Meaning.{Meaning, Partition, Interval}
 use Rattle.rounding.specs.Fractions.{nought}
@@ -80,6 +80,15 @@ module _ (log : ℕ → ℕ) (m : Meaning) (weights : List Float) where
               | inr from ↦ let same : i ≡ k = omega arith in rw (same, long, ← e, ← h.value) h.exact
             ];
       }
+
+  -- the next weight, where k of them are gone
+  pub next_weight :
+      (k : ℕ) (w : Float) (rest : List Float) → k ≤ length weights → drop k weights ≡ w ∷ rest
+      → (k < length weights) × (w ≡ get_or weights k nought) × (rest ≡ drop (suc k) weights)
+  next_weight k w rest h e =
+      let long : k < length weights = omega (arith, length-drop k weights, ap length e) in
+      let more = drop-cons weights k nought long in
+      (long, cc, cc)
 
   -- the walk ends where the weights do, or the rows
   pub crossing_all : (k : ℕ) (sum : Float) → Crossing log m weights k sum → k ≡ paired m weights → CrossEntropy log m weights sum

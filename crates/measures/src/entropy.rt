@@ -6,6 +6,7 @@ use crate::logarithm::Logarithm;
 use crate::quantiles::quantiles;
 use models::bits::BitArray;
 use models::model::{EntropyModel, IterableEntropyModel};
+use models::table::Rows;
 use rounding::natural;
 
 // The logarithm of a length.
@@ -22,10 +23,8 @@ fn weigh_rows<M: IterableEntropyModel, L: Logarithm>(model: &M) -> u64
     ensures { result ≡ weighed_rows L.Logarithm.value (M.EntropyModel.meaning model.now) }
 {
     let mut sum = 0u64;
-    let mut index = 0usize;
-    while let Some((_, _, length)) = model.symbol_table(index) {
+    for (_, _, length) in Rows::of(model) {
         sum += length.to_u64() * log2_of::<M::Probability, L>(length);
-        index += 1;
     }
     sum
 }
@@ -52,10 +51,8 @@ pub fn cross_entropy_base2<M: IterableEntropyModel, L: Logarithm>(model: &M, wei
 {
     let precision = model.precision();
     let mut sum = 0.0;
-    for (index, weight) in weights.iter().enumerate() {
-        let Some((_, _, length)) = model.symbol_table(index) else {
-            return sum;
-        };
+    let rows = Rows::of(model);
+    for (weight, (_, _, length)) in weights.iter().zip(rows) {
         sum += *weight * bits_taken::<M::Probability, L>(precision, length);
     }
     sum

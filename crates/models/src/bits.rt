@@ -1,4 +1,4 @@
-// Probabilities: unsigned numbers of a fixed width.
+// Probabilities: unsigned numbers of a fixed width. Its two types are two implementations, one line a call.
 ghost use Rattle.std.specs.Prelude.{◌≡◌, ℕ, ◌%◌, ◌^◌, ◌<◌, ◌≤◌};
 ghost use Rattle.models.specs.Answers.{FromValue};
 ghost use Rattle.std.proofs.Common.{rules};
@@ -48,10 +48,7 @@ impl BitArray for u16 {
     }
 
     fn from_u64(n: u64) -> Option<u16> {
-        if n > u16::MAX as u64 {
-            return None;
-        }
-        Some(n as u16)
+        u16::try_from(n).ok()
     }
 
     fn wrapping_from_u64(n: u64) -> u16 {
@@ -77,10 +74,7 @@ impl BitArray for u32 {
     }
 
     fn from_u64(n: u64) -> Option<u32> {
-        if n > u32::MAX as u64 {
-            return None;
-        }
-        Some(n as u32)
+        u32::try_from(n).ok()
     }
 
     fn wrapping_from_u64(n: u64) -> u32 {

@@ -1,6 +1,9 @@
 // The refusals of the model layer, and what each is called.
-ghost use Rattle.std.specs.Prelude.{◌≡◌};
-ghost use Rattle.models.specs.Faults.{layer_of, number_of, place_of};
+ghost use Rattle.std.specs.Prelude.{◌≡◌, Some};
+ghost use Rattle.models.specs.Faults.{layer_of, number_of, place_of, word_of};
+
+use std::error::Error;
+use std::fmt;
 
 #[derive(Clone, Copy, PartialEq, Eq, Debug)]
 pub enum ModelFault {
@@ -41,3 +44,19 @@ impl ModelFault {
         0
     }
 }
+
+impl fmt::Display for ModelFault {
+    ghost output = { λ f. Some (word_of f) };
+
+    fn fmt<W: fmt::Write>(&self, f: &mut fmt::Formatter<W>) -> fmt::Result {
+        f.write_str(match self {
+            ModelFault::Precision => "precision",
+            ModelFault::Order => "order",
+            ModelFault::Span => "span",
+            ModelFault::Beyond => "beyond",
+            ModelFault::Range => "range",
+        })
+    }
+}
+
+impl Error for ModelFault {}

@@ -6,3 +6,4 @@ pub mod distribution;
 pub mod fault;
 pub mod model;
 pub mod symbol;
+pub mod table;

@@ -1,4 +1,5 @@
 // The symbol interface: the exact whole number of a symbol, and the way back within its type.
+// Each type has an implementation of its own: the interface stands in the place of a bound on all numbers, which would take in 128 bits.
 ghost use Rattle.std.specs.Prelude.{◌≡◌, ℤ, pos, negsuc, ◌+ℤ◌};
 ghost use Rattle.models.specs.Answers.{Above, Between, FromWhole};
 ghost use Rattle.std.proofs.Common.{rules};
@@ -41,19 +42,11 @@ impl Symbol for i16 {
     }
 
     fn from_whole(z: i128) -> Option<i16> {
-        if z < i16::MIN as i128 || z > i16::MAX as i128 {
-            return None;
-        }
-        Some(z as i16)
+        i16::try_from(z).ok()
     }
 
     fn above(self, rows: u64) -> i16 {
-        let room = (i16::MAX as i64 - self as i64) as u64;
-        if rows < room {
-            (self as i64 + rows as i64) as i16
-        } else {
-            i16::MAX
-        }
+        self.saturating_add_unsigned(rows.min(u16::MAX as u64) as u16)
     }
 }
 
@@ -71,19 +64,11 @@ impl Symbol for u16 {
     }
 
     fn from_whole(z: i128) -> Option<u16> {
-        if z < u16::MIN as i128 || z > u16::MAX as i128 {
-            return None;
-        }
-        Some(z as u16)
+        u16::try_from(z).ok()
     }
 
     fn above(self, rows: u64) -> u16 {
-        let room = (u16::MAX as i64 - self as i64) as u64;
-        if rows < room {
-            (self as i64 + rows as i64) as u16
-        } else {
-            u16::MAX
-        }
+        self.saturating_add(rows.min(u16::MAX as u64) as u16)
     }
 }
 
@@ -101,19 +86,11 @@ impl Symbol for i32 {
     }
 
     fn from_whole(z: i128) -> Option<i32> {
-        if z < i32::MIN as i128 || z > i32::MAX as i128 {
-            return None;
-        }
-        Some(z as i32)
+        i32::try_from(z).ok()
     }
 
     fn above(self, rows: u64) -> i32 {
-        let room = (i32::MAX as i64 - self as i64) as u64;
-        if rows < room {
-            (self as i64 + rows as i64) as i32
-        } else {
-            i32::MAX
-        }
+        self.saturating_add_unsigned(rows.min(u32::MAX as u64) as u32)
     }
 }
 
@@ -131,19 +108,11 @@ impl Symbol for u32 {
     }
 
     fn from_whole(z: i128) -> Option<u32> {
-        if z < u32::MIN as i128 || z > u32::MAX as i128 {
-            return None;
-        }
-        Some(z as u32)
+        u32::try_from(z).ok()
     }
 
     fn above(self, rows: u64) -> u32 {
-        let room = (u32::MAX as i64 - self as i64) as u64;
-        if rows < room {
-            (self as i64 + rows as i64) as u32
-        } else {
-            u32::MAX
-        }
+        self.saturating_add(rows.min(u32::MAX as u64) as u32)
     }
 }
 
@@ -161,18 +130,10 @@ impl Symbol for usize {
     }
 
     fn from_whole(z: i128) -> Option<usize> {
-        if z < usize::MIN as i128 || z > usize::MAX as i128 {
-            return None;
-        }
-        Some(z as usize)
+        usize::try_from(z).ok()
     }
 
     fn above(self, rows: u64) -> usize {
-        let room = (usize::MAX - self) as u64;
-        if rows < room {
-            self + rows as usize
-        } else {
-            usize::MAX
-        }
+        self.saturating_add(rows as usize)
     }
 }

@@ -1,6 +1,6 @@
 -- Appending to a buffer, one piece after the other.
-use Rattle.std.proofs.Common.{◌≡◌, ℕ, ◌+◌, List, [], ◌++◌, length, Ok, vec_items, vec_capacity, Vec, sym, refl, ap, ◌∙◌, subst, append_assoc, append-nil, length-append}
-use Rattle.records.specs.Buffer.{Added, Appended}
+use Rattle.std.proofs.Common.{◌≡◌, ℕ, ◌+◌, List, [], ◌++◌, length, vec_items, vec_capacity, Vec, sym, refl, ap, ◌∙◌, subst, append_assoc, append-nil, length-append}
+use Rattle.records.specs.Buffer.{Added}
 
 module _ {Z : Type 0} where
   pub added : (v w : Vec ℕ Z) (bs : List ℕ) → vec_items w ≡ vec_items v ++ bs → vec_capacity w ≡ vec_capacity v → Added v bs w
@@ -18,10 +18,3 @@ module _ {Z : Type 0} where
 
   pub added_same : {v w : Vec ℕ Z} {bs cs : List ℕ} → Added v bs w → bs ≡ cs → Added v cs w
   added_same {v} {w} {bs} {cs} p e = subst (λ (l : List ℕ). Added v l w) e p
-
-  pub added_is : {v w x : Vec ℕ Z} {bs : List ℕ} → Added v bs w → x ≡ w → Added v bs x
-  added_is {v} {w} {x} {bs} p e = subst (λ (y : Vec ℕ Z). Added v bs y) (sym e) p
-
-  -- once room is taken and the pieces are written
-  pub appended : {E : Type 0} (n : ℕ) {v u w : Vec ℕ Z} {bs : List ℕ} → vec_items u ≡ vec_items v → Added u bs w → Appended {E = E} n v bs (Ok tt) w
-  appended n {v} {u} {w} {bs} e p = record { items = p.items ∙ ap (λ (l : List ℕ). l ++ bs) e; succeeds = λ _. refl }

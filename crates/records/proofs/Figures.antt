@@ -1,11 +1,10 @@
 -- The decimal text of a number, by its places: how `decimal` splits at a power of ten.
-use Rattle.std.proofs.Common.{◌≡◌, ℕ, zero, suc, ◌+◌, ◌-◌, ◌*◌, ◌/◌, ◌%◌, ◌^◌, ◌<◌, ◌≤◌, List, [], ◌∷◌, ◌++◌, length, ℤ, pos, negsuc, nat_abs, decimal, sym, refl, ap, ◌∙◌, append_assoc, append-nil, zero-le, mod-lt, mod-eq_of_lt, div-lt_iff_lt-mul, pow-suc, le-div_iff_mul-le, div-one, sub-one, arith, length-append, SFits, to_z, of_z}
+use Rattle.std.proofs.Common.{◌≡◌, ℕ, zero, suc, ◌+◌, ◌-◌, ◌*◌, ◌/◌, ◌%◌, ◌^◌, ◌<◌, ◌≤◌, List, [], ◌∷◌, ◌++◌, length, ℤ, pos, negsuc, nat_abs, decimal, sym, refl, ap, ◌∙◌, append_assoc, append-nil, zero-le, mod-lt, mod-eq_of_lt, div-lt_iff_lt-mul, pow-suc, le-div_iff_mul-le, div-one, sub-one, arith, length-append, SFits}
 use native.Mathlib.Nat.{div-div-eq-div-mul, pow-succ'}
 use lib.Arith.{mod-mul, digits_div, digits_mod}
 use mir.Syntax.{w128}
 use lib.Signed.{lt_z}
 use Rattle.std.specs.Fmt.{sign_text, signed_decimal}
-use Rattle.std.proofs.lemmas.Int.{to_z-of_z}
 use Rattle.std.proofs.lemmas.Bool.{le-ltb}
 use Rattle.records.specs.Places.{places}
 use Rattle.records.proofs.Spelling.{decimal_digit, decimal_step, length_decimal}
@@ -97,10 +96,7 @@ signed_parts z y n e f = ap (λ (m : ℕ). sign_text (lt_z y (pos 0)) ++ decimal
 pub length_signed_parts : (z y : ℤ) (n : ℕ) → y ≡ z → n ≡ nat_abs y → length (signed_decimal z) ≡ length (sign_text (lt_z y (pos 0))) + length (decimal n)
 length_signed_parts z y n e f = ap length (sym (signed_parts z y n e f)) ∙ length-append (sign_text (lt_z y (pos 0))) (decimal n)
 
--- an i128 takes at most 40 bytes, and so it does as it is passed
+-- an i128 takes at most 40 bytes
 pub length_signed : (z : ℤ) → SFits w128 z → length (signed_decimal z) ≤ 40
 length_signed (pos n) f = omega (arith, length_decimal 38 n (omega (arith, f.sfits)) (omega (arith, f.sfits)))
 length_signed (negsuc n) f = omega (arith, length_decimal 38 (suc n) (omega (arith, f.sfits)) (omega (arith, f.sfits)))
-
-pub length_signed_back : (z : ℤ) → SFits w128 z → length (signed_decimal (to_z w128 (of_z w128 z))) ≤ 40
-length_signed_back z f = rw (to_z-of_z w128 z f) (length_signed z f)

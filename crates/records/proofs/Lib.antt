@@ -1,4 +1,5 @@
 pub mod Appending
+pub mod Bytes
 pub mod Described
 pub mod Figures
 pub mod Spelling

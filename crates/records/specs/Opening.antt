@@ -1,5 +1,7 @@
 -- Which model a record describes, and which fault it has.
-use Rattle.std.specs.Prelude.{◌≡◌, ℕ, List, ℤ, pos, negsuc, ◌-ℤ◌, Some, None, Ok, Err, Option, Result, unsigned_abs, Float}
+use Rattle.std.specs.Prelude.{◌≡◌, ℕ, List, ℤ, pos, negsuc, ◌-ℤ◌, Some, None, Ok, Err, Option, Result, unsigned_abs}
+use Rattle.models.specs.contracts.bits.U32BitArray.TheImpl as u32
+use Rattle.models.specs.contracts.symbol.I32Symbol.TheImpl as i32
 use Rattle.models.specs.declared.fault.ModelFault.{ModelFault}
 use Rattle.distributions.specs.Peak as peak
 use Rattle.distributions.specs.declared.fault.DistributionFault.{DistributionFault}
@@ -7,16 +9,16 @@ use Rattle.distributions.specs.declared.peak.Peak as shape
 use Rattle.quantize.specs.Extents.{means}
 use Rattle.quantize.specs.Quantized as quantized
 use Rattle.quantize.specs.declared.quantizer.LeakilyQuantizedDistribution.{LeakilyQuantizedDistribution}
-use Rattle.quantize.specs.declared.support.CheckedSupport.{CheckedSupport}
 use Rattle.uniform.specs.Uniform as uniform
 use Rattle.uniform.specs.declared.model.UniformModel.{UniformModel}
-use Rattle.uniform.specs.declared.range.EvenRange.{EvenRange}
 use Rattle.records.specs.Record.{Bad, Good, fields_of}
 use Rattle.records.specs.declared.fault.RecordFault.{RecordFault}
 use Rattle.records.specs.declared.fault.RecordFault.TheVariants.{Malformed, Model, Distribution}
 use Rattle.records.specs.declared.fault.Refusal.{Refusal}
 use Rattle.records.specs.declared.layout.Fields.{Fields}
 use Rattle.records.specs.declared.layout.Fields.TheVariants as fields
+use Rattle.records.specs.declared.layout.PeakFields.{PeakFields}
+use Rattle.records.specs.declared.layout.UniformFields.{UniformFields}
 use Rattle.records.specs.declared.opening.RecordModel.{RecordModel}
 use Rattle.records.specs.declared.opening.RecordModel.TheVariants.{Uniform, Peak}
 
@@ -27,19 +29,23 @@ symbols_of (negsuc n) = 0
 
 -- models of the symbols and the width that records have
 abbrev pub Even : Type 0
-Even = UniformModel (EvenRange 32)
+Even = UniformModel ℕ u32.ghosts
 
 abbrev pub Quantized : Type 0
-Quantized = LeakilyQuantizedDistribution (CheckedSupport 2147483648 2147483647 32) shape.Peak
+Quantized = LeakilyQuantizedDistribution ℤ ℕ shape.Peak i32.ghosts u32.ghosts
 
 -- the model is uniform, as it is described
-abbrev pub IsUniform : ℕ → ℤ → Even → Type 0
-IsUniform bits range u = uniform.uniform u.range.precision u.range.range ≡ uniform.uniform bits (symbols_of range)
+abbrev pub IsUniform : UniformFields → Even → Type 0
+IsUniform f u = uniform.uniform u.precision u.range ≡ uniform.uniform f.precision (symbols_of f.range)
 
 -- the model quantizes the Peak that is described
-pub record IsPeak (bits : ℕ) (low high : ℤ) (centre scale : Float) (m : Quantized) : Type 0 where
-  pub shaped : peak.Shaped centre scale m.inner.centre m.inner.scale
-  pub meaning : means m.quantizer.support.extent (peak.height_at m.inner.centre m.inner.scale) ≡ quantized.quantized low (unsigned_abs (high -ℤ low)) bits (peak.height_at centre scale)
+pub record IsPeak (f : PeakFields) (m : Quantized) : Type 0 where
+  pub shaped : peak.Shaped f.centre f.scale m.inner.centre m.inner.scale
+  pub meaning : means m.quantizer.extent (peak.height_at m.inner.centre m.inner.scale) ≡ quantized.quantized f.min (unsigned_abs (f.max -ℤ f.min)) f.precision (peak.height_at f.centre f.scale)
+
+-- why a uniform model is refused
+abbrev pub uniform_fault : UniformFields → Option ModelFault
+uniform_fault f = uniform.refusal 32 f.precision (symbols_of f.range)
 
 -- the fault of a model, and that of its distribution only where the model has none
 abbrev pub model_first : Option ModelFault → Option DistributionFault → Option RecordFault
@@ -47,20 +53,21 @@ model_first (Some fault) later = Some (Model fault)
 model_first None (Some fault) = Some (Distribution fault)
 model_first None None = None
 
-abbrev pub peak_fault : ℕ → ℤ → ℤ → Float → Float → Option RecordFault
-peak_fault bits low high centre scale = model_first (quantized.refusal 32 bits low high) (peak.refusal centre scale)
+-- why a quantized Peak is refused
+abbrev pub peak_fault : PeakFields → Option RecordFault
+peak_fault f = model_first (quantized.refusal 32 f.precision f.min f.max) (peak.refusal f.centre f.scale)
 
 -- why the model that the fields describe is refused
 abbrev pub fault_of : Fields → Option RecordFault
-fault_of (fields.Uniform bits range) = model_first (uniform.refusal 32 bits (symbols_of range)) None
-fault_of (fields.Peak bits low high centre scale) = peak_fault bits low high centre scale
+fault_of (fields.Uniform f) = model_first (uniform_fault f) None
+fault_of (fields.Peak f) = peak_fault f
 
 -- the model is the one that the fields describe
 abbrev pub Describes : Fields → RecordModel → Type 0
-Describes (fields.Uniform bits range) (Uniform u) = IsUniform bits range u
-Describes (fields.Uniform bits range) (Peak m) = ⊥
-Describes (fields.Peak bits low high centre scale) (Uniform u) = ⊥
-Describes (fields.Peak bits low high centre scale) (Peak m) = IsPeak bits low high centre scale m
+Describes (fields.Uniform f) (Uniform u) = IsUniform f u
+Describes (fields.Uniform f) (Peak m) = ⊥
+Describes (fields.Peak f) (Uniform u) = ⊥
+Describes (fields.Peak f) (Peak m) = IsPeak f m
 
 -- the model of a record, or its one fault: that of its form before those of its model
 abbrev pub Opens : List ℕ → Result RecordModel RecordFault → Type 0

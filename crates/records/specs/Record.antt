@@ -2,7 +2,7 @@
 -- Byte 0 is the kind, 1 uniform or 2 Peak, and byte 1 the precision. Bytes 4 to 7 are the lowest symbol and 8 to 11 the
 -- highest (i32), 16 to 23 a Peak's centre and 24 to 31 its scale (f64). All other bytes are zero, and so are those of
 -- the lowest symbol, the centre and the scale in a uniform record, whose range is the highest symbol and one.
-use Rattle.std.specs.Prelude.{◌≡◌, ℕ, zero, suc, ◌+◌, ◌*◌, ◌<◌, ◌≤◌, Bool, true, false, cond, not, ◌&&◌, ◌||◌, ◌⊎◌, List, length, ℤ, pos, ◌+ℤ◌, Ok, Err, Result, ◌==◌, from_bits, nat_le, nat_lt, slice_index, Float}
+use Rattle.std.specs.Prelude.{◌≡◌, ℕ, zero, suc, ◌+◌, ◌*◌, ◌<◌, ◌≤◌, Bool, true, false, cond, not, ◌&&◌, ◌||◌, ◌⊎◌, List, length, pos, ◌+ℤ◌, Ok, Err, Result, ◌==◌, from_bits, nat_le, nat_lt, slice_index, Float}
 use Rattle.std.specs.Float.{fin, binary64}
 use Rattle.std.specs.Int.{w32}
 use Rattle.std.proofs.Common.{to_z}
@@ -10,6 +10,8 @@ use Rattle.records.specs.declared.fault.RecordFault.{RecordFault}
 use Rattle.records.specs.declared.fault.RecordFault.TheVariants.{Malformed}
 use Rattle.records.specs.declared.layout.Fields.{Fields}
 use Rattle.records.specs.declared.layout.Fields.TheVariants.{Uniform, Peak}
+use Rattle.records.specs.declared.layout.Kind.{Kind}
+use Rattle.records.specs.declared.layout.Kind.TheVariants as kind
 
 abbrev pub byte : List ℕ → ℕ → ℕ
 byte bytes i = slice_index bytes i
@@ -33,6 +35,16 @@ empty kind i = unused i || (kind == 1 && peak_only i)
 abbrev pub wrong : ℕ → ℕ → ℕ → Bool
 wrong kind zero b = not (b == 1 || b == 2)
 wrong kind (suc i) b = empty kind (suc i) && not (b == 0)
+
+-- the byte that names a kind
+abbrev pub code_of : Kind → ℕ
+code_of kind.Uniform = 1
+code_of kind.Peak = 2
+
+-- the byte names the kind, or is at fault at offset 0
+abbrev pub Decodes : ℕ → Result Kind RecordFault → Type 0
+Decodes b (Ok kind) = code_of kind ≡ b
+Decodes b (Err fault) = (fault ≡ Malformed 0) × (wrong b 0 b ≡ true)
 
 -- the byte at offset i is at fault
 abbrev pub at_fault : List ℕ → ℕ → Bool
@@ -59,8 +71,14 @@ scale_of bits = cond (bits == 0) default_scale (from_bits binary64 bits)
 
 abbrev pub fields_of : List ℕ → Fields
 fields_of bytes =
-    cond (byte bytes 0 == 1) (Uniform (byte bytes 1) (to_z w32 (little bytes 8 4) +ℤ pos 1))
-    (Peak (byte bytes 1) (to_z w32 (little bytes 4 4)) (to_z w32 (little bytes 8 4)) (from_bits binary64 (little bytes 16 8)) (scale_of (little bytes 24 8)))
+    cond (byte bytes 0 == 1) (Uniform (record { precision = byte bytes 1; range = to_z w32 (little bytes 8 4) +ℤ pos 1 }))
+    (Peak (record {
+      precision = byte bytes 1;
+      min = to_z w32 (little bytes 4 4);
+      max = to_z w32 (little bytes 8 4);
+      centre = from_bits binary64 (little bytes 16 8);
+      scale = scale_of (little bytes 24 8);
+    }))
 
 -- a short piece is at fault where it ends; else the lowest offset at fault
 abbrev pub Bad : List ℕ → ℕ → Type 0

@@ -1,10 +1,12 @@
 // The refusals of the record layer, which carry those of the layers below whole.
-ghost use Rattle.std.specs.Prelude.{◌≡◌};
-ghost use Rattle.records.specs.Faults.{layer_of, number_of, place_of};
+ghost use Rattle.std.specs.Prelude.{◌≡◌, Some};
+ghost use Rattle.records.specs.Faults.{layer_of, number_of, place_of, word_of};
 ghost use Rattle.records.specs.declared.fault.RecordFault.TheVariants.{Model, Distribution};
 
 use distributions::fault::DistributionFault;
 use models::fault::ModelFault;
+use std::error::Error;
+use std::fmt;
 
 #[derive(Clone, Copy, PartialEq, Eq, Debug)]
 pub enum RecordFault {
@@ -63,6 +65,20 @@ impl RecordFault {
         }
     }
 }
+
+impl fmt::Display for RecordFault {
+    ghost output = { λ f. Some (word_of f) };
+
+    fn fmt<W: fmt::Write>(&self, f: &mut fmt::Formatter<W>) -> fmt::Result {
+        match self {
+            RecordFault::Malformed(_) => f.write_str("record"),
+            RecordFault::Model(fault) => fault.fmt(f),
+            RecordFault::Distribution(fault) => fault.fmt(f),
+        }
+    }
+}
+
+impl Error for RecordFault {}
 
 // A refused record: the number of its channel, counted from 0, and why.
 #[derive(Clone, Copy)]

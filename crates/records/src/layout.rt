@@ -1,91 +1,87 @@
 // The 32 bytes of a channel record: which byte is at fault, and what the fields hold.
-ghost use Rattle.std.specs.Prelude.{◌≡◌, ℕ, ◌+◌, ◌<◌, ◌≤◌, false, length, MatchOption};
-ghost use Rattle.std.specs.Int.{w32};
-ghost use Rattle.std.proofs.Common.{to_z};
-ghost use Rattle.records.specs.Record.{wrong, at_fault, First, little, scale_of, fields_of, Lays};
+ghost use Rattle.std.specs.Prelude.{◌≡◌, ℕ, ◌+◌, ◌<◌, ◌≤◌, false, take, drop, MatchOption};
+ghost use Rattle.records.specs.Record.{byte, code_of, Decodes, empty, at_fault, First, scale_of, fields_of, Lays};
 
 use crate::fault::RecordFault;
 use std::num::f64_from_bits_with_nan;
 
 pub const RECORD_LEN: usize = 32;
 
-const UNIFORM: u8 = 1;
-
-const PEAK: u8 = 2;
-
 // what scale bytes that are all zero stand for
 const DEFAULT_SCALE: f64 = 16.0;
+
+// What byte 0 of a record names.
+#[derive(Clone, Copy, PartialEq, Eq, Debug)]
+pub enum Kind {
+    Uniform,
+    Peak,
+}
+
+impl TryFrom<u8> for Kind {
+    type Error = RecordFault;
+
+    ghost try_from_gives = { Decodes };
+
+    fn try_from(byte: u8) -> Result<Kind, RecordFault> {
+        match byte {
+            1 => Ok(Kind::Uniform),
+            2 => Ok(Kind::Peak),
+            _ => Err(RecordFault::Malformed(0)),
+        }
+    }
+}
+
+impl Kind {
+    // Whether a record of this kind holds zero at a place.
+    fn is_empty_at(self, place: usize) -> bool
+        ensures { result ≡ empty (code_of self) place }
+    {
+        match place {
+            2..=3 | 12..=15 => true,
+            4..=7 | 16..=31 => self == Kind::Uniform,
+            _ => false,
+        }
+    }
+}
+
+// What a record of kind 1 says of its channel.
+#[derive(Clone, Copy)]
+pub struct UniformFields {
+    pub precision: u32,
+    pub range: i64,
+}
+
+// What a record of kind 2 says of its channel.
+#[derive(Clone, Copy)]
+pub struct PeakFields {
+    pub precision: u32,
+    pub min: i32,
+    pub max: i32,
+    pub centre: f64,
+    pub scale: f64,
+}
 
 // What a well-formed record says of its channel.
 #[derive(Clone, Copy)]
 pub enum Fields {
-    Uniform {
-        precision: u8,
-        range: i64,
-    },
-    Peak {
-        precision: u8,
-        min: i32,
-        max: i32,
-        centre: f64,
-        scale: f64,
-    },
-}
-
-// Whether a byte is wrong at its place, in a record of the given kind.
-fn is_wrong(kind: u8, place: usize, byte: u8) -> bool
-    ensures { result ≡ wrong kind place byte }
-{
-    match place {
-        0 => byte != UNIFORM && byte != PEAK,
-        2..=3 | 12..=15 => byte != 0,
-        4..=7 | 16..=31 => kind == UNIFORM && byte != 0,
-        _ => false,
-    }
+    Uniform(UniformFields),
+    Peak(PeakFields),
 }
 
 // The place of the first byte at fault.
-fn first_fault(bytes: &[u8]) -> Option<usize>
-    requires { 32 ≤ length bytes.now }
-    ensures { MatchOption result ((i : ℕ) → i < 32 → at_fault bytes.now i ≡ false) (λ p. First bytes.now p) }
+fn first_fault(kind: Kind, head: &[u8; RECORD_LEN]) -> Option<usize>
+    requires { code_of kind ≡ byte head.now 0 }
+    ensures { MatchOption result ((i : ℕ) → i < 32 → at_fault head.now i ≡ false) (λ p. First head.now p) }
 {
-    let head = &bytes[0..RECORD_LEN];
-    for (place, byte) in head.iter().enumerate() {
-        if is_wrong(head[0], place, *byte) {
-            return Some(place);
-        }
-    }
-    None
+    (0..RECORD_LEN).find(|place| kind.is_empty_at(*place) && head[*place] != 0)
 }
 
-// The signed number of the four bytes from a place.
-fn i32_at(bytes: &[u8], place: usize) -> i32
-    requires { place + 4 ≤ length bytes.now }
-    ensures { result ≡ to_z w32 (little bytes.now place 4) }
+// The N bytes from a place.
+fn bytes_at<const N: usize>(head: &[u8; RECORD_LEN], place: usize) -> [u8; N]
+    requires { place + N ≤ 32 }
+    ensures { result ≡ take N (drop place head.now) }
 {
-    i32::from_le_bytes([
-        bytes[place],
-        bytes[place + 1],
-        bytes[place + 2],
-        bytes[place + 3],
-    ])
-}
-
-// The number of the eight bytes from a place: the bits of a float.
-fn bits_at(bytes: &[u8], place: usize) -> u64
-    requires { place + 8 ≤ length bytes.now }
-    ensures { result ≡ little bytes.now place 8 }
-{
-    u64::from_le_bytes([
-        bytes[place],
-        bytes[place + 1],
-        bytes[place + 2],
-        bytes[place + 3],
-        bytes[place + 4],
-        bytes[place + 5],
-        bytes[place + 6],
-        bytes[place + 7],
-    ])
+    head[place..place + N].try_into().unwrap()
 }
 
 fn scale_of(bits: u64) -> f64
@@ -98,24 +94,24 @@ fn scale_of(bits: u64) -> f64
     }
 }
 
-fn read_fields(bytes: &[u8]) -> Fields
-    requires { 32 ≤ length bytes.now }
-    ensures { result ≡ fields_of bytes.now }
+fn read_fields(kind: Kind, head: &[u8; RECORD_LEN]) -> Fields
+    requires { code_of kind ≡ byte head.now 0 }
+    ensures { result ≡ fields_of head.now }
 {
-    let precision = bytes[1];
-    let max = i32_at(bytes, 8);
-    if bytes[0] == UNIFORM {
-        return Fields::Uniform {
+    let precision = head[1] as u32;
+    let max = i32::from_le_bytes(bytes_at(head, 8));
+    match kind {
+        Kind::Uniform => Fields::Uniform(UniformFields {
             precision,
             range: max as i64 + 1,
-        };
-    }
-    Fields::Peak {
-        precision,
-        min: i32_at(bytes, 4),
-        max,
-        centre: f64_from_bits_with_nan(bits_at(bytes, 16)),
-        scale: scale_of(bits_at(bytes, 24)),
+        }),
+        Kind::Peak => Fields::Peak(PeakFields {
+            precision,
+            min: i32::from_le_bytes(bytes_at(head, 4)),
+            max,
+            centre: f64_from_bits_with_nan(u64::from_le_bytes(bytes_at(head, 16))),
+            scale: scale_of(u64::from_le_bytes(bytes_at(head, 24))),
+        }),
     }
 }
 
@@ -123,11 +119,12 @@ fn read_fields(bytes: &[u8]) -> Fields
 pub fn layout(bytes: &[u8]) -> Result<Fields, RecordFault>
     ensures { Lays bytes.now result }
 {
-    if bytes.len() < RECORD_LEN {
+    let Some(head) = bytes.first_chunk() else {
         return Err(RecordFault::Malformed(bytes.len() as u32));
+    };
+    let kind = Kind::try_from(head[0])?;
+    match first_fault(kind, head) {
+        Some(place) => Err(RecordFault::Malformed(place as u32)),
+        None => Ok(read_fields(kind, head)),
     }
-    if let Some(place) = first_fault(bytes) {
-        return Err(RecordFault::Malformed(place as u32));
-    }
-    Ok(read_fields(bytes))
 }

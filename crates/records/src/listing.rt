@@ -4,71 +4,97 @@ ghost use Rattle.records.specs.Buffer.{Room, Added, Appended};
 ghost use Rattle.records.specs.Listing.{channel_line, row_line, refused_line, Fills};
 
 use crate::fault::Refusal;
-use crate::text::{put_byte, put_i128, put_text, put_u32};
+use crate::text::{Text, put_byte, put_text};
 use models::model::{EntropyModel, IterableEntropyModel};
 use models::symbol::Symbol;
 use std::alloc::AllocError;
 
 pub const LINE_ROOM: usize = 64;
 
-fn put_channel(out: &mut Vec<u8>, channel: u32)
-    requires { Room out.old 64 }
-    ensures { Added out.old (channel_line channel) out.new }
-{
-    put_text(out, b"channel ");
-    put_u32(out, channel);
-    put_byte(out, b'\n');
+// The heading of a channel's table.
+#[derive(Clone, Copy)]
+struct Heading(u32);
+
+impl Text for Heading {
+    const ROOM: usize = LINE_ROOM;
+
+    ghost ROOM = { 64 };
+
+    ghost bytes = { λ h. channel_line h.0 };
+
+    fn put(&self, out: &mut Vec<u8>) {
+        put_text(out, b"channel ");
+        self.0.put(out);
+        put_byte(out, b'\n');
+    }
 }
 
-fn put_row(out: &mut Vec<u8>, symbol: i128, start: u32, length: u32)
-    requires { Room out.old 64 }
-    ensures { Added out.old (row_line symbol start length) out.new }
-{
-    put_i128(out, symbol);
-    put_byte(out, b' ');
-    put_u32(out, start);
-    put_byte(out, b' ');
-    put_u32(out, length);
-    put_byte(out, b'\n');
+// A row of a table.
+#[derive(Clone, Copy)]
+struct Row {
+    symbol: i128,
+    start: u32,
+    length: u32,
 }
 
-fn put_refused(out: &mut Vec<u8>, refusal: Refusal)
-    requires { Room out.old 64 }
-    ensures { Added out.old (refused_line refusal) out.new }
-{
-    put_text(out, b"channel ");
-    put_u32(out, refusal.channel);
-    put_text(out, b" refused ");
-    put_u32(out, refusal.fault.layer() as u32);
-    put_byte(out, b' ');
-    put_u32(out, refusal.fault.number() as u32);
-    put_byte(out, b' ');
-    put_u32(out, refusal.fault.place());
-    put_byte(out, b'\n');
+impl Text for Row {
+    const ROOM: usize = LINE_ROOM;
+
+    ghost ROOM = { 64 };
+
+    ghost bytes = { λ r. row_line r.symbol r.start r.length };
+
+    fn put(&self, out: &mut Vec<u8>) {
+        self.symbol.put(out);
+        put_byte(out, b' ');
+        self.start.put(out);
+        put_byte(out, b' ');
+        self.length.put(out);
+        put_byte(out, b'\n');
+    }
+}
+
+impl Text for Refusal {
+    const ROOM: usize = LINE_ROOM;
+
+    ghost ROOM = { 64 };
+
+    ghost bytes = { refused_line };
+
+    fn put(&self, out: &mut Vec<u8>) {
+        put_text(out, b"channel ");
+        self.channel.put(out);
+        put_text(out, b" refused ");
+        (self.fault.layer() as u32).put(out);
+        put_byte(out, b' ');
+        (self.fault.number() as u32).put(out);
+        put_byte(out, b' ');
+        self.fault.place().put(out);
+        put_byte(out, b'\n');
+    }
 }
 
 pub fn push_channel(out: &mut Vec<u8>, channel: u32) -> Result<(), AllocError>
     ensures { Appended 64 out.old (channel_line channel) result out.new }
 {
-    out.reserve(LINE_ROOM)?;
-    put_channel(out, channel);
-    Ok(())
+    Heading(channel).push(out)
 }
 
 pub fn push_row(out: &mut Vec<u8>, symbol: i128, start: u32, length: u32) -> Result<(), AllocError>
     ensures { Appended 64 out.old (row_line symbol start length) result out.new }
 {
-    out.reserve(LINE_ROOM)?;
-    put_row(out, symbol, start, length);
-    Ok(())
+    let row = Row {
+        symbol,
+        start,
+        length,
+    };
+    row.push(out)
 }
 
 pub fn push_refused(out: &mut Vec<u8>, refusal: Refusal) -> Result<(), AllocError>
     ensures { Appended 64 out.old (refused_line refusal) result out.new }
 {
-    out.reserve(LINE_ROOM)?;
-    put_refused(out, refusal);
-    Ok(())
+    refusal.push(out)
 }
 
 // Appends the rows of a model's table from the given one on, as long as a line surely fits without taking memory.
@@ -82,18 +108,21 @@ pub fn fill_rows<M: IterableEntropyModel>(
 {
     let mut start = model.left_cumulative(from)?;
     let low = model.lowest_symbol().to_whole();
-    // the highest is a whole number of this width too, so no symbol of a row passes it
-    let _high = model.highest_symbol().to_whole();
-    let mut row = from;
-    while out.capacity() - out.len() >= LINE_ROOM {
+    let high = model.highest_symbol().to_whole();
+    let rows = (high - low) as usize + 1;
+    for row in from..rows {
+        if out.capacity() - out.len() < LINE_ROOM {
+            return Some(row);
+        }
         // a row ends where the next one starts
         let end = model.left_cumulative(row + 1)?;
-        let symbol = low + row as i128;
-        let left = start as u32;
-        let length = (end - start) as u32;
-        put_row(out, symbol, left, length);
+        let line = Row {
+            symbol: low + row as i128,
+            start: start as u32,
+            length: (end - start) as u32,
+        };
+        line.put(out);
         start = end;
-        row += 1;
     }
-    Some(row)
+    None
 }

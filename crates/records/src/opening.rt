@@ -1,42 +1,35 @@
 // From a record to the model that it describes, or to its one fault.
 ghost use Rattle.models.specs.Answers.{Makes};
-ghost use Rattle.uniform.specs.Uniform.{refusal};
-ghost use Rattle.records.specs.Opening.{symbols_of, peak_fault, IsUniform, IsPeak, Opens, OpensChannel};
+ghost use Rattle.records.specs.Opening.{uniform_fault, peak_fault, IsUniform, IsPeak, Opens, OpensChannel};
 
 use crate::fault::{RecordFault, Refusal};
-use crate::layout::{Fields, layout};
+use crate::layout::{Fields, PeakFields, UniformFields, layout};
 use distributions::peak::Peak;
 use models::fault::ModelFault;
 use quantize::quantizer::{LeakilyQuantizedDistribution, LeakyQuantizer};
-use quantize::support::I32U32;
 use uniform::model::UniformModel;
-use uniform::range::EvenRange;
 
 #[derive(Drop)]
 pub enum RecordModel {
-    Uniform(UniformModel<EvenRange<32>>),
-    Peak(LeakilyQuantizedDistribution<I32U32, Peak>),
+    Uniform(UniformModel<u32>),
+    Peak(LeakilyQuantizedDistribution<i32, u32, Peak>),
 }
 
 // A range below zero has no symbols.
-fn open_uniform(precision: u8, range: i64) -> Result<UniformModel<EvenRange<32>>, ModelFault>
-    ensures { Makes (refusal 32 precision (symbols_of range)) (IsUniform precision range) result }
+fn open_uniform(fields: UniformFields) -> Result<UniformModel<u32>, ModelFault>
+    ensures { Makes (uniform_fault fields) (IsUniform fields) result }
 {
-    UniformModel::new(precision as u32, range.max(0) as usize)
+    UniformModel::new(fields.precision, fields.range.max(0) as usize)
 }
 
 // The support is checked first, then the shape of the distribution.
 pub fn open_peak(
-    precision: u32,
-    min: i32,
-    max: i32,
-    centre: f64,
-    scale: f64,
-) -> Result<LeakilyQuantizedDistribution<I32U32, Peak>, RecordFault>
-    ensures { Makes (peak_fault precision min max centre scale) (IsPeak precision min max centre scale) result }
+    fields: PeakFields,
+) -> Result<LeakilyQuantizedDistribution<i32, u32, Peak>, RecordFault>
+    ensures { Makes (peak_fault fields) (IsPeak fields) result }
 {
-    let quantizer = LeakyQuantizer::new(min, max, precision)?;
-    let peak = Peak::new(centre, scale)?;
+    let quantizer = LeakyQuantizer::new(fields.min, fields.max, fields.precision)?;
+    let peak = Peak::new(fields.centre, fields.scale)?;
     Ok(quantizer.quantize(peak))
 }
 
@@ -44,26 +37,15 @@ pub fn open_peak(
 pub fn open_record(bytes: &[u8]) -> Result<RecordModel, RecordFault>
     ensures { Opens bytes.now result }
 {
-    match layout(bytes)? {
-        Fields::Uniform { precision, range } => Ok(RecordModel::Uniform(open_uniform(
-            precision, range,
-        )?)),
-        Fields::Peak {
-            precision,
-            min,
-            max,
-            centre,
-            scale,
-        } => Ok(RecordModel::Peak(open_peak(precision as u32, min, max, centre, scale)?)),
-    }
+    Ok(match layout(bytes)? {
+        Fields::Uniform(fields) => RecordModel::Uniform(open_uniform(fields)?),
+        Fields::Peak(fields) => RecordModel::Peak(open_peak(fields)?),
+    })
 }
 
 // A fault gets the number of its channel.
 pub fn open_channel(channel: u32, bytes: &[u8]) -> Result<RecordModel, Refusal>
     ensures { OpensChannel channel bytes.now result }
 {
-    match open_record(bytes) {
-        Ok(model) => Ok(model),
-        Err(fault) => Err(Refusal { channel, fault }),
-    }
+    open_record(bytes).map_err(|fault| Refusal { channel, fault })
 }

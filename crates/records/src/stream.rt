@@ -9,6 +9,7 @@ use std::io;
 use std::io::{Read, Write};
 
 // Fills a piece until it is full or the input ends, and answers how many bytes came.
+// They are counted: a rest that shrinks would need its first length kept, and a subtraction at the end.
 pub fn read_piece<R: Read>(input: &mut R, piece: &mut [u8]) -> io::Result<usize>
     ensures { IfOk result (λ n. n ≤ length piece.new) }
 {
@@ -23,28 +24,33 @@ pub fn read_piece<R: Read>(input: &mut R, piece: &mut [u8]) -> io::Result<usize>
     Ok(filled)
 }
 
-// Writes the page out and empties it.
-pub fn write_page<W: Write>(page: &mut Vec<u8>, sink: &mut W) -> io::Result<()>
-    ensures { MatchResult result (λ _. Emptied page.old page.new) (λ _. page.new ≡ page.old) }
-{
-    sink.write_all(page.as_slice())?;
-    page.clear();
-    Ok(())
+// A listing on its way out: the page that holds its last lines, and where the pages go.
+#[derive(Drop)]
+pub struct Listing<W> {
+    pub page: Vec<u8>,
+    pub sink: W,
 }
 
-// Lists a whole table, and writes the page out whenever it is full: the last lines stay on it.
-pub fn write_rows<M: IterableEntropyModel, W: Write>(
-    page: &mut Vec<u8>,
-    sink: &mut W,
-    model: &M,
-) -> io::Result<()>
-    ensures { OnOk result (Listed (M.EntropyModel.meaning model.now) page.old page.new) }
-{
-    page.reserve(LINE_ROOM)?;
-    let mut from = 0;
-    while let Some(next) = fill_rows(page, model, from) {
-        write_page(page, sink)?;
-        from = next;
+impl<W: Write> Listing<W> {
+    // Writes the page out and empties it.
+    pub fn write_page(&mut self) -> io::Result<()>
+        ensures { MatchResult result (λ _. Emptied self.old.page self.new.page) (λ _. self.new.page ≡ self.old.page) }
+    {
+        self.sink.write_all(self.page.as_slice())?;
+        self.page.clear();
+        Ok(())
     }
-    Ok(())
+
+    // Lists a whole table, and writes the page out whenever it is full: the last lines stay on it.
+    pub fn write_rows<M: IterableEntropyModel>(&mut self, model: &M) -> io::Result<()>
+        ensures { OnOk result (Listed (M.EntropyModel.meaning model.now) self.old.page self.new.page) }
+    {
+        self.page.reserve(LINE_ROOM)?;
+        let mut from = 0;
+        while let Some(next) = fill_rows(&mut self.page, model, from) {
+            self.write_page()?;
+            from = next;
+        }
+        Ok(())
+    }
 }

@@ -3,6 +3,7 @@ use crate::fault::{RecordFault, Refusal};
 use crate::layout::{Fields, layout};
 use crate::listing::{push_channel, push_refused, push_row};
 use crate::opening::open_record;
+use distributions::fault::DistributionFault;
 use models::fault::ModelFault;
 use std::test::Fail;
 
@@ -26,19 +27,31 @@ fn lines(rt: HostRuntime) -> Result<(), Fail> {
     Ok(())
 }
 
+#[test]
+fn words(rt: HostRuntime) -> Result<(), Fail> {
+    for (fault, word) in [
+        (RecordFault::Malformed(31), "record"),
+        (RecordFault::Model(ModelFault::Range), "range"),
+        (
+            RecordFault::Distribution(DistributionFault::Knots(7)),
+            "knots",
+        ),
+    ] {
+        assert_eq!(rt; fault.to_string(rt.alloc())?.as_str(), word);
+    }
+    Ok(())
+}
+
 // The fault of a uniform record with one byte changed.
 fn fault_with(place: usize, byte: u8) -> Option<RecordFault> {
     let mut bytes = [0u8; 32];
     bytes[0] = 1;
     bytes[1] = 5;
     bytes[8] = 3;
-    if place < 32 {
-        bytes[place] = byte;
+    if let Some(changed) = bytes.get_mut(place) {
+        *changed = byte;
     }
-    match open_record(&bytes) {
-        Ok(_) => None,
-        Err(fault) => Some(fault),
-    }
+    open_record(&bytes).err()
 }
 
 #[test]
@@ -70,23 +83,13 @@ fn peak(rt: HostRuntime) -> Result<(), Fail> {
     bytes[8] = 3;
     bytes[22] = 0xE0;
     bytes[23] = 0x3F;
-    match layout(&bytes) {
-        Ok(
-            Fields::Peak {
-                precision,
-                min,
-                max,
-                centre,
-                scale,
-            },
-        ) => {
-            assert_eq!(rt; precision, 5);
-            assert_eq!(rt; min, -2);
-            assert_eq!(rt; max, 3);
-            assert!(rt; centre == 0.5);
-            assert!(rt; scale == 16.0);
-            Ok(())
-        }
-        _ => Err(Fail::new("a Peak")),
-    }
+    let Ok(Fields::Peak(fields)) = layout(&bytes) else {
+        return Err(Fail::new("a Peak"));
+    };
+    assert_eq!(rt; fields.precision, 5);
+    assert_eq!(rt; fields.min, -2);
+    assert_eq!(rt; fields.max, 3);
+    assert!(rt; fields.centre == 0.5);
+    assert!(rt; fields.scale == 16.0);
+    Ok(())
 }

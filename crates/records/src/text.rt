@@ -1,7 +1,7 @@
 // Decimal text, appended to a buffer of bytes.
 // The digits come from the highest place down, each by dividing by its power of ten. Room is taken before the
 // first digit, so that a number is appended whole or not at all.
-ghost use Rattle.std.specs.Prelude.{◌≡◌, ◌-◌, ◌^◌, ◌<◌, ◌≤◌, [], ◌∷◌, length, pos, decimal, int_lt};
+ghost use Rattle.std.specs.Prelude.{◌≡◌, ℕ, ◌-◌, ◌^◌, ◌<◌, ◌≤◌, List, [], ◌∷◌, length, pos, decimal, int_lt};
 ghost use Rattle.std.specs.Fmt.{sign_text, signed_decimal};
 ghost use Rattle.records.specs.Buffer.{Room, Added, Appended};
 ghost use Rattle.records.specs.Places.{places};
@@ -35,11 +35,7 @@ fn count_digits(n: u32) -> usize
     ensures above { n < 10 ^ result }
     ensures below { 1 < result → 10 ^ (result - 1) ≤ n }
 {
-    let mut count = 1;
-    while count < 10 && power_of_ten(count) <= n {
-        count += 1;
-    }
-    count
+    n.checked_ilog10().map_or(1, |log| log as usize + 1)
 }
 
 // The lowest `count` places of n, the highest of them first.
@@ -61,6 +57,7 @@ pub(crate) fn put_byte(out: &mut Vec<u8>, byte: u8)
     out.push_reserved(byte);
 }
 
+// Tried with `extend_from_slice`: that it takes no memory where there is room stays open, as its contract lacks it.
 pub(crate) fn put_text(out: &mut Vec<u8>, text: &[u8])
     requires { Room out.old (length text.now) }
     ensures { Added out.old text.now out.new }
@@ -95,44 +92,76 @@ fn put_sign(out: &mut Vec<u8>, z: i128)
     }
 }
 
-fn put_signed(out: &mut Vec<u8>, z: i128)
-    requires { Room out.old (length (signed_decimal z)) }
-    ensures { Added out.old (signed_decimal z) out.new }
-{
-    put_sign(out, z);
-    put_decimal(out, z.unsigned_abs());
+// What is appended whole or not at all.
+pub(crate) trait Text {
+    // the most bytes that it takes
+    const ROOM: usize;
+
+    ghost ROOM: { ℕ };
+
+    ghost bytes: { Self → List ℕ };
+
+    fn put(&self, out: &mut Vec<u8>)
+        requires { Room out.old ROOM }
+        ensures text { Added out.old (bytes self.now) out.new }
+        ensures short { length (bytes self.now) ≤ ROOM };
+
+    final fn push(&self, out: &mut Vec<u8>) -> Result<(), AllocError>
+        ensures { Appended ROOM out.old (bytes self.now) result out.new }
+    {
+        out.reserve(Self::ROOM)?;
+        self.put(out);
+        Ok(())
+    }
 }
 
-pub(crate) fn put_u32(out: &mut Vec<u8>, n: u32)
-    requires { Room out.old 10 }
-    ensures text { Added out.old (decimal n) out.new }
-    ensures short { length (decimal n) ≤ 10 }
-{
-    put_decimal(out, n as u128);
+impl Text for u32 {
+    const ROOM: usize = 10;
+
+    ghost ROOM = { 10 };
+
+    ghost bytes = { decimal };
+
+    fn put(&self, out: &mut Vec<u8>) {
+        put_decimal(out, *self as u128);
+    }
 }
 
-pub(crate) fn put_i128(out: &mut Vec<u8>, z: i128)
-    requires { Room out.old 40 }
-    ensures text { Added out.old (signed_decimal z) out.new }
-    ensures short { length (signed_decimal z) ≤ 40 }
-{
-    put_signed(out, z);
+impl Text for u128 {
+    const ROOM: usize = 40;
+
+    ghost ROOM = { 40 };
+
+    ghost bytes = { decimal };
+
+    fn put(&self, out: &mut Vec<u8>) {
+        put_decimal(out, *self);
+    }
+}
+
+impl Text for i128 {
+    const ROOM: usize = 40;
+
+    ghost ROOM = { 40 };
+
+    ghost bytes = { signed_decimal };
+
+    fn put(&self, out: &mut Vec<u8>) {
+        put_sign(out, *self);
+        put_decimal(out, self.unsigned_abs());
+    }
 }
 
 // Appends n in decimal. No number takes more than 40 bytes.
 pub fn push_decimal(out: &mut Vec<u8>, n: u128) -> Result<(), AllocError>
     ensures { Appended 40 out.old (decimal n) result out.new }
 {
-    out.reserve(40)?;
-    put_decimal(out, n);
-    Ok(())
+    n.push(out)
 }
 
 // Appends z in decimal, with '-' before a negative number.
 pub fn push_signed(out: &mut Vec<u8>, z: i128) -> Result<(), AllocError>
     ensures { Appended 40 out.old (signed_decimal z) result out.new }
 {
-    out.reserve(40)?;
-    put_i128(out, z);
-    Ok(())
+    z.push(out)
 }

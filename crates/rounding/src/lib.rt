@@ -73,7 +73,7 @@ pub fn ranges_stand() -> bool
     true
 }
 
-// The lesser of x and y: y where they are equal, or one is not a number.
+// The lesser of x and y: y where they are equal, or one is not a number. (`f64::min` would take the number.)
 pub fn lesser(x: f64, y: f64) -> f64
     ensures { result ≡ the-lesser x y }
 {
@@ -109,9 +109,8 @@ pub fn weigh(weight: u64, height: f64) -> u64
 pub fn natural(n: u64) -> f64
     ensures { result ≡ of_int binary64 (pos n) }
 {
-    if n <= 9007199254740992 {
-        n as i64 as f64
-    } else {
-        nearest_u64_to_f64(n)
+    match i64::try_from(n) {
+        Ok(n) => whole(n),
+        Err(_) => nearest_u64_to_f64(n),
     }
 }

@@ -1,7 +1,7 @@
 // A case of the sample: a model that the original made, and what it answered.
 use crate::claim::Claim;
 
-#[derive(Clone, Copy)]
+#[derive(Clone, Copy, Debug, PartialEq, Eq)]
 pub enum SymbolType {
     I16,
     U16,
@@ -10,23 +10,14 @@ pub enum SymbolType {
 }
 
 // of the probability type
-#[derive(Clone, Copy)]
+#[derive(Clone, Copy, Debug, PartialEq, Eq)]
 pub enum Width {
     Bits16,
     Bits32,
 }
 
-// where a search starts
-#[derive(Clone, Copy)]
-pub enum Guess {
-    // from the inverse of the Peak
-    Own,
-    // from this number, whatever the quantile
-    Constant(f64),
-}
-
 // A Peak, quantized.
-#[derive(Clone, Copy)]
+#[derive(Clone, Copy, Debug, PartialEq)]
 pub struct Quantized {
     pub symbols: SymbolType,
     pub width: Width,
@@ -37,15 +28,16 @@ pub struct Quantized {
     pub scale: f64,
 }
 
-#[derive(Clone, Copy)]
+#[derive(Clone, Copy, Debug, PartialEq, Eq)]
 pub struct Uniform {
     pub width: Width,
     pub precision: u32,
     pub range: usize,
 }
 
-#[derive(Clone, Copy)]
+#[derive(Clone, Copy, Debug, PartialEq)]
 pub enum Case {
-    OfPeak(Quantized, Guess, Claim),
+    // a number here is where every search starts, whatever the quantile; else the inverse of the Peak says where
+    OfPeak(Quantized, Option<f64>, Claim),
     OfUniform(Uniform, Claim),
 }

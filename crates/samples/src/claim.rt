@@ -1,7 +1,7 @@
 // What the original answered, as a claim about a model.
 
 // Symbols, starts and lengths are whole numbers of no type, so that one claim serves every make of model.
-#[derive(Clone, Copy)]
+#[derive(Clone, Copy, Debug, PartialEq, Eq)]
 pub enum Claim {
     // a symbol has this start and length, or is outside
     Encoded(i128, Option<(u64, u64)>),

@@ -4,3 +4,5 @@
 pub mod case;
 pub mod claim;
 pub mod parse;
+#[cfg(test)]
+mod tests;

@@ -1,156 +1,179 @@
-// A line of the sample as a case: its words stand between single blanks, and a float is the decimal number of its bits.
-use crate::case::{Case, Guess, Quantized, SymbolType, Uniform, Width};
+// A line of the sample is read as a case: its words stand between single blanks, and a float is the decimal number of its bits.
+use crate::case::{Case, Quantized, SymbolType, Uniform, Width};
 use crate::claim::Claim;
-use std::num::f64_from_bits_with_nan;
-use std::str::FromStr;
+use std::error::Error;
+use std::fmt;
+use std::num::{ParseIntError, f64_from_bits_with_nan};
+use std::str::{FromStr, Split};
 
-// what the original was asked for
+// A word is missing or means nothing at its place, or a line goes on after its case.
+#[derive(Clone, Copy, PartialEq, Eq, Debug)]
+pub struct NotACase;
+
+impl fmt::Display for NotACase {
+    fn fmt<W: fmt::Write>(&self, f: &mut fmt::Formatter<W>) -> fmt::Result {
+        f.write_str("not read")
+    }
+}
+
+impl Error for NotACase {}
+
+impl From<ParseIntError> for NotACase {
+    fn from(_fault: ParseIntError) -> NotACase {
+        NotACase
+    }
+}
+
+impl FromStr for SymbolType {
+    type Err = NotACase;
+
+    fn from_str(word: &str) -> Result<SymbolType, NotACase> {
+        match word {
+            "i16" => Ok(SymbolType::I16),
+            "u16" => Ok(SymbolType::U16),
+            "i32" => Ok(SymbolType::I32),
+            "u32" => Ok(SymbolType::U32),
+            _ => Err(NotACase),
+        }
+    }
+}
+
+impl FromStr for Width {
+    type Err = NotACase;
+
+    fn from_str(word: &str) -> Result<Width, NotACase> {
+        match word {
+            "16" => Ok(Width::Bits16),
+            "32" => Ok(Width::Bits32),
+            _ => Err(NotACase),
+        }
+    }
+}
+
 #[derive(Clone, Copy)]
-enum Asked {
-    Interval,
-    Row,
-    Share,
+struct Bits(f64);
+
+impl FromStr for Bits {
+    type Err = NotACase;
+
+    fn from_str(word: &str) -> Result<Bits, NotACase> {
+        Ok(Bits(f64_from_bits_with_nan(word.parse()?)))
+    }
 }
 
-// What is left of a line: nothing after its last word.
-#[derive(Drop)]
-struct Words<'a> {
-    rest: Option<&'a str>,
+// where a search starts
+#[derive(Clone, Copy)]
+struct Guess(Option<f64>);
+
+impl FromStr for Guess {
+    type Err = NotACase;
+
+    fn from_str(word: &str) -> Result<Guess, NotACase> {
+        if word == "own" {
+            return Ok(Guess(None));
+        }
+        let Bits(guess) = word.parse()?;
+        Ok(Guess(Some(guess)))
+    }
 }
+
+// What is left of a line.
+#[derive(Drop)]
+struct Words<'a>(Split<'a, char>);
 
 impl<'a> Words<'a> {
-    fn word(&mut self) -> Option<&'a str> {
-        let rest = self.rest?;
-        match rest.split_once(' ') {
-            Some((word, rest)) => {
-                self.rest = Some(rest);
-                Some(word)
-            }
-            None => {
-                self.rest = None;
-                Some(rest)
-            }
-        }
+    fn word(&mut self) -> Result<&'a str, NotACase> {
+        self.0.next().ok_or(NotACase)
     }
 
-    fn number<T: FromStr>(&mut self) -> Option<T>
+    fn read<T: FromStr>(&mut self) -> Result<T, NotACase>
     where
-        T::Err: Drop,
+        NotACase: From<T::Err>,
     {
-        self.word()?.parse::<T>().ok()
+        Ok(self.word()?.parse::<T>()?)
     }
 
-    fn float(&mut self) -> Option<f64> {
-        Some(f64_from_bits_with_nan(self.number()?))
+    fn float(&mut self) -> Result<f64, NotACase> {
+        let Bits(float) = self.read()?;
+        Ok(float)
     }
 
-    fn width(&mut self) -> Option<Width> {
-        match self.word()? {
-            "16" => Some(Width::Bits16),
-            "32" => Some(Width::Bits32),
-            _ => None,
-        }
+    fn guess(&mut self) -> Result<Option<f64>, NotACase> {
+        let Guess(guess) = self.read()?;
+        Ok(guess)
     }
 
-    fn symbol_type(&mut self) -> Option<SymbolType> {
-        match self.word()? {
-            "i16" => Some(SymbolType::I16),
-            "u16" => Some(SymbolType::U16),
-            "i32" => Some(SymbolType::I32),
-            "u32" => Some(SymbolType::U32),
-            _ => None,
-        }
-    }
-
-    fn quantized(&mut self) -> Option<Quantized> {
-        Some(Quantized {
-            symbols: self.symbol_type()?,
-            width: self.width()?,
-            precision: self.number()?,
-            min: self.number()?,
-            max: self.number()?,
+    fn quantized(&mut self) -> Result<Quantized, NotACase> {
+        Ok(Quantized {
+            symbols: self.read()?,
+            width: self.read()?,
+            precision: self.read()?,
+            min: self.read()?,
+            max: self.read()?,
             centre: self.float()?,
             scale: self.float()?,
         })
     }
 
-    fn uniform(&mut self) -> Option<Uniform> {
-        Some(Uniform {
-            width: self.width()?,
-            precision: self.number()?,
-            range: self.number()?,
+    fn uniform(&mut self) -> Result<Uniform, NotACase> {
+        Ok(Uniform {
+            width: self.read()?,
+            precision: self.read()?,
+            range: self.read()?,
         })
     }
 
-    fn guess(&mut self) -> Option<Guess> {
-        match self.word()? {
-            "own" => Some(Guess::Own),
-            bits => Some(Guess::Constant(f64_from_bits_with_nan(bits.parse().ok()?))),
-        }
-    }
-
     // SYMBOL START LENGTH, or SYMBOL outside
-    fn encoded(&mut self) -> Option<Claim> {
-        let symbol = self.number()?;
-        match self.word()? {
-            "outside" => Some(Claim::Encoded(symbol, None)),
-            start => Some(Claim::Encoded(symbol, Some((start.parse().ok()?, self.number()?)))),
-        }
+    fn encoded(&mut self) -> Result<Claim, NotACase> {
+        let symbol = self.read()?;
+        let interval = match self.word()? {
+            "outside" => None,
+            start => Some((start.parse()?, self.read()?)),
+        };
+        Ok(Claim::Encoded(symbol, interval))
     }
 
     // Q SYMBOL START LENGTH
-    fn searched(&mut self) -> Option<Claim> {
-        let quantile = self.number()?;
-        let row = (self.number()?, self.number()?, self.number()?);
-        Some(Claim::Searched(quantile, row))
+    fn searched(&mut self) -> Result<Claim, NotACase> {
+        let quantile = self.read()?;
+        let row = (self.read()?, self.read()?, self.read()?);
+        Ok(Claim::Searched(quantile, row))
     }
 
     // SYMBOL BITS
-    fn likely(&mut self) -> Option<Claim> {
-        Some(Claim::Likely(self.number()?, self.number()?))
-    }
-
-    fn claim(&mut self, asked: Asked) -> Option<Claim> {
-        match asked {
-            Asked::Interval => self.encoded(),
-            Asked::Row => self.searched(),
-            Asked::Share => self.likely(),
-        }
+    fn likely(&mut self) -> Result<Claim, NotACase> {
+        Ok(Claim::Likely(self.read()?, self.read()?))
     }
 
     // Only a search has a guess.
-    fn of_peak(&mut self, asked: Asked) -> Option<Case> {
-        let model = self.quantized()?;
-        let guess = match asked {
-            Asked::Row => self.guess()?,
-            _ => Guess::Own,
-        };
-        Some(Case::OfPeak(model, guess, self.claim(asked)?))
-    }
-
-    fn of_uniform(&mut self, asked: Asked) -> Option<Case> {
-        Some(Case::OfUniform(self.uniform()?, self.claim(asked)?))
-    }
-
-    fn case(&mut self) -> Option<Case> {
+    fn case(&mut self) -> Result<Case, NotACase> {
         match self.word()? {
-            "encode" => self.of_peak(Asked::Interval),
-            "search" => self.of_peak(Asked::Row),
-            "probability" => self.of_peak(Asked::Share),
-            "uniform-encode" => self.of_uniform(Asked::Interval),
-            "uniform-search" => self.of_uniform(Asked::Row),
-            "uniform-probability" => self.of_uniform(Asked::Share),
-            _ => None,
+            "encode" => Ok(Case::OfPeak(self.quantized()?, None, self.encoded()?)),
+            "search" => Ok(Case::OfPeak(self.quantized()?, self.guess()?, self.searched()?)),
+            "probability" => Ok(Case::OfPeak(self.quantized()?, None, self.likely()?)),
+            "uniform-encode" => Ok(Case::OfUniform(self.uniform()?, self.encoded()?)),
+            "uniform-search" => Ok(Case::OfUniform(self.uniform()?, self.searched()?)),
+            "uniform-probability" => Ok(Case::OfUniform(self.uniform()?, self.likely()?)),
+            _ => Err(NotACase),
+        }
+    }
+
+    fn end(&mut self) -> Result<(), NotACase> {
+        match self.0.next() {
+            None => Ok(()),
+            Some(_) => Err(NotACase),
         }
     }
 }
 
-// The case that a line spells, or `None` where it spells none, or goes on after it.
-pub fn parse(line: &str) -> Option<Case> {
-    let mut words = Words { rest: Some(line) };
-    let case = words.case()?;
-    match words.rest {
-        None => Some(case),
-        Some(_) => None,
+// The case that the whole line spells.
+impl FromStr for Case {
+    type Err = NotACase;
+
+    fn from_str(line: &str) -> Result<Case, NotACase> {
+        let mut words = Words(line.split(' '));
+        let case = words.case()?;
+        words.end()?;
+        Ok(case)
     }
 }

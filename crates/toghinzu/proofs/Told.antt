@@ -1,6 +1,9 @@
--- The status of a refused call is the number of the refusal that is due. Assumes nothing.
-use Rattle.std.proofs.Common.{◌≡◌, ℕ, Some, Option, sym, ap, ◌∙◌}
-use Rattle.std.specs.Option.{option_map}
+-- What a `?` hands on where a model is refused. Assumes nothing.
+use Rattle.std.proofs.Common.{◌≡◌, IsErrAnd, Ok, Err, Result, ap}
+use Rattle.records.specs.declared.fault.RecordFault.{RecordFault}
+use Rattle.toghinzu.specs.declared.refused.Refused.{Refused}
+use Rattle.toghinzu.specs.declared.refused.Refused.TheVariants.{Fault}
 
-pub told : {F : Type 0} (number : F → ℕ) (due : Option F) (f : F) (n : ℕ) → due ≡ Some f → n ≡ number f → option_map number due ≡ Some n
-told number due f n e is = ap (option_map number) e ∙ ap Some (sym is)
+pub carried : {T : Type 0} (f : RecordFault) (r : Result T Refused) → IsErrAnd r (λ e. e ≡ Fault f) → r ≡ Err (Fault f)
+carried f (Ok x) is = absurd is
+carried f (Err e) is = ap Err is

@@ -1,14 +1,12 @@
--- What a struct that is handed over describes: the number of the refusal that is due for it, and what its model means where none
--- is. Assumes nothing.
-use Rattle.std.specs.Prelude.{ℕ, ◌+◌, ℤ, pos, ◌-ℤ◌, Option, unsigned_abs, Float}
-use Rattle.std.specs.Option.{option_map}
-use Rattle.models.specs.Faults as models
+-- What a struct that is handed over describes: the refusal that is due for it, and what its model means where none is. Assumes nothing.
+use Rattle.std.specs.Prelude.{ℕ, ◌+◌, ℤ, pos, ◌-ℤ◌, None, Option, unsigned_abs, Float}
 use Rattle.models.specs.Meaning.{Meaning}
 use Rattle.channel.specs.Rows.{Row}
 use Rattle.distributions.specs.Peak.{height_at}
 use Rattle.quantize.specs.Quantized.{quantized}
-use Rattle.records.specs.Faults.{number_of}
-use Rattle.records.specs.Opening.{peak_fault}
+use Rattle.records.specs.Opening.{model_first, peak_fault}
+use Rattle.records.specs.declared.fault.RecordFault.{RecordFault}
+use Rattle.records.specs.declared.layout.PeakFields.{PeakFields}
 use Rattle.uniform.specs.Uniform.{uniform, refusal}
 use Rattle.toghinzu.specs.declared.parts.PeakChannel.{PeakChannel}
 use Rattle.toghinzu.specs.declared.parts.PeakRow.{PeakRow}
@@ -22,13 +20,17 @@ opened_peak min max precision centre scale = record { min = min; max = max; prec
 abbrev pub opened_uniform : ℕ → ℕ → UniformChannel
 opened_uniform range precision = record { range = range; precision = precision; row = 0 }
 
+-- what the numbers say of the model
+abbrev pub peak_fields : PeakChannel → PeakFields
+peak_fields c = record { precision = c.precision; min = c.min; max = c.max; centre = c.centre; scale = c.scale }
+
 -- precision, order and span, then the shape of the Peak
-abbrev pub peak_due : PeakChannel → Option ℕ
-peak_due c = option_map number_of (peak_fault c.precision c.min c.max c.centre c.scale)
+abbrev pub peak_due : PeakChannel → Option RecordFault
+peak_due c = peak_fault (peak_fields c)
 
 -- precision, then range
-abbrev pub uniform_due : UniformChannel → Option ℕ
-uniform_due c = option_map models.number_of (refusal 32 c.precision c.range)
+abbrev pub uniform_due : UniformChannel → Option RecordFault
+uniform_due c = model_first (refusal 32 c.precision c.range) None
 
 abbrev pub peak_means : PeakChannel → Meaning
 peak_means c = quantized c.min (unsigned_abs (c.max -ℤ c.min)) c.precision (height_at c.centre c.scale)

@@ -1,2 +1,3 @@
+pub mod Told
 pub mod Channels
 pub mod Calls

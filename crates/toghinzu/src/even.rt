@@ -1,24 +1,51 @@
 // Uniform channels: u64 symbols from 0, u32 probabilities.
-ghost use Rattle.std.specs.Prelude.{◌≡◌, pos};
+ghost use Rattle.std.specs.Prelude.{pos};
 ghost use Rattle.channel.specs.Answered.{buffers_of};
 ghost use Rattle.channel.specs.Steps.{at, itself};
-ghost use Rattle.models.specs.Answers.{Makes};
-ghost use Rattle.uniform.specs.Uniform.{uniform, refusal};
 ghost use Rattle.toghinzu.specs.Calls.{Opened, Encoded, Searched, Paged};
 ghost use Rattle.toghinzu.specs.Channels.{opened_uniform, uniform_due, uniform_means, uniform_row, uniform_onward};
 
+use crate::calls::{Described, encode, fill, open, search};
 use crate::parts::{Interval, UniformChannel, UniformRow};
-use channel::page::page;
-use models::fault::ModelFault;
-use models::model::{DecoderModel, EncoderModel};
+use crate::refused::tell;
+use records::fault::RecordFault;
 use uniform::model::UniformModel;
-use uniform::range::EvenRange;
 
-// The model that the numbers describe: the precision is checked first, then the range.
-fn model(channel: &UniformChannel) -> Result<UniformModel<EvenRange<32>>, ModelFault>
-    ensures { Makes (refusal 32 channel.now.precision channel.now.range) (λ u. uniform u.range.precision u.range.range ≡ uniform_means channel.now) result }
-{
-    UniformModel::new(channel.precision, channel.range as usize)
+impl Described for UniformChannel {
+    type Model = UniformModel<u32>;
+
+    type Row = UniformRow;
+
+    ghost due = { uniform_due };
+
+    ghost means = { uniform_means };
+
+    ghost reads = { uniform_row };
+
+    ghost handed = { λ c. c.row };
+
+    ghost onward = { uniform_onward };
+
+    // The precision is checked first, then the range.
+    fn model(&self) -> Result<UniformModel<u32>, RecordFault> {
+        Ok(UniformModel::new(self.precision, self.range as usize)?)
+    }
+
+    fn row_of(symbol: usize, start: u32, length: u32) -> UniformRow {
+        UniformRow {
+            symbol: symbol as u64,
+            start,
+            length,
+        }
+    }
+
+    fn handed(&self) -> usize {
+        self.row as usize
+    }
+
+    fn advance(&mut self, rows: usize) {
+        self.row += rows as u64;
+    }
 }
 
 #[unsafe(no_mangle)]
@@ -34,13 +61,7 @@ pub extern "C" fn toghinzu_uniform_open(
         precision,
         row: 0,
     };
-    match model(&asked) {
-        Err(fault) => fault.number() as i32,
-        Ok(_) => {
-            *channel = asked;
-            0
-        }
-    }
+    tell(open(asked), channel)
 }
 
 #[unsafe(no_mangle)]
@@ -51,17 +72,7 @@ pub extern "C" fn toghinzu_uniform_encode(
 ) -> i32
     ensures { Encoded (uniform_due channel.now) (uniform_means channel.now) (pos symbol) interval.old interval.new result }
 {
-    let model = match model(channel) {
-        Err(fault) => return fault.number() as i32,
-        Ok(model) => model,
-    };
-    match model.left_cumulative_and_probability(symbol as usize) {
-        None => -1,
-        Some((start, length)) => {
-            *interval = Interval { start, length };
-            0
-        }
-    }
+    tell(encode(channel, symbol as usize), interval)
 }
 
 #[unsafe(no_mangle)]
@@ -72,21 +83,7 @@ pub extern "C" fn toghinzu_uniform_search(
 ) -> i32
     ensures { Searched uniform_row (uniform_due channel.now) (uniform_means channel.now) quantile row.old row.new result }
 {
-    let model = match model(channel) {
-        Err(fault) => return fault.number() as i32,
-        Ok(model) => model,
-    };
-    match model.quantile_function(quantile) {
-        Err(fault) => fault.number() as i32,
-        Ok((symbol, start, length)) => {
-            *row = UniformRow {
-                symbol: symbol as u64,
-                start,
-                length,
-            };
-            0
-        }
-    }
+    tell(search(channel, quantile), row)
 }
 
 #[unsafe(no_mangle)]
@@ -97,14 +94,7 @@ pub extern "C" fn toghinzu_uniform_fill(
     lengths: &mut [u32],
     count: &mut usize,
 ) -> i32
-    ensures { Paged uniform_onward (uniform_due channel.entry.now) (at (uniform_means channel.entry.now) channel.entry.now.row) (record { channel = channel.entry.now; buffers = buffers_of pos itself symbols.old starts.old lengths.old; count = count.old }) (record { channel = channel.exit.now; buffers = buffers_of pos itself symbols.new starts.new lengths.new; count = count.new }) result }
+    ensures { Paged uniform_onward (uniform_due channel.old) (at (uniform_means channel.old) channel.old.row) (record { channel = channel.old; buffers = buffers_of pos itself symbols.old starts.old lengths.old; count = count.old }) (record { channel = channel.new; buffers = buffers_of pos itself symbols.new starts.new lengths.new; count = count.new }) result }
 {
-    let model = match model(channel) {
-        Err(fault) => return fault.number() as i32,
-        Ok(model) => model,
-    };
-    let written = page(&model, channel.row as usize, symbols, starts, lengths);
-    channel.row += written as u64;
-    *count = written;
-    0
+    tell(fill(channel, symbols, starts, lengths), count)
 }

@@ -2,6 +2,8 @@
 // Each answers 0 where it did what it says, the number of the refusal, or -1 where there is nothing to answer.
 #![tactic(auto)]
 
+pub mod calls;
 pub mod even;
 pub mod parts;
 pub mod peak;
+pub mod refused;

@@ -2,31 +2,59 @@
 ghost use Rattle.std.specs.Prelude.{ℤ};
 ghost use Rattle.channel.specs.Answered.{buffers_of};
 ghost use Rattle.channel.specs.Steps.{at, itself};
-ghost use Rattle.models.specs.Answers.{Makes};
-ghost use Rattle.records.specs.Opening.{peak_fault, IsPeak};
 ghost use Rattle.toghinzu.specs.Calls.{Opened, Encoded, Searched, Paged};
 ghost use Rattle.toghinzu.specs.Channels.{opened_peak, peak_due, peak_means, peak_row, peak_onward};
 
+use crate::calls::{Described, encode, fill, open, search};
 use crate::parts::{Interval, PeakChannel, PeakRow};
-use channel::page::page;
+use crate::refused::tell;
 use distributions::peak::Peak;
-use models::model::{DecoderModel, EncoderModel};
 use quantize::quantizer::LeakilyQuantizedDistribution;
-use quantize::support::I32U32;
 use records::fault::RecordFault;
+use records::layout::PeakFields;
 use records::opening::open_peak;
 
-// The model that the numbers describe: the support is checked first, then the shape of the Peak.
-fn model(channel: &PeakChannel) -> Result<LeakilyQuantizedDistribution<I32U32, Peak>, RecordFault>
-    ensures { Makes (peak_fault channel.now.precision channel.now.min channel.now.max channel.now.centre channel.now.scale) (IsPeak channel.now.precision channel.now.min channel.now.max channel.now.centre channel.now.scale) result }
-{
-    open_peak(
-        channel.precision,
-        channel.min,
-        channel.max,
-        channel.centre,
-        channel.scale,
-    )
+impl Described for PeakChannel {
+    type Model = LeakilyQuantizedDistribution<i32, u32, Peak>;
+
+    type Row = PeakRow;
+
+    ghost due = { peak_due };
+
+    ghost means = { peak_means };
+
+    ghost reads = { peak_row };
+
+    ghost handed = { λ c. c.row };
+
+    ghost onward = { peak_onward };
+
+    // The support is checked first, then the shape of the Peak.
+    fn model(&self) -> Result<LeakilyQuantizedDistribution<i32, u32, Peak>, RecordFault> {
+        open_peak(PeakFields {
+            precision: self.precision,
+            min: self.min,
+            max: self.max,
+            centre: self.centre,
+            scale: self.scale,
+        })
+    }
+
+    fn row_of(symbol: i32, start: u32, length: u32) -> PeakRow {
+        PeakRow {
+            symbol,
+            start,
+            length,
+        }
+    }
+
+    fn handed(&self) -> usize {
+        self.row as usize
+    }
+
+    fn advance(&mut self, rows: usize) {
+        self.row += rows as u64;
+    }
 }
 
 #[unsafe(no_mangle)]
@@ -48,13 +76,7 @@ pub extern "C" fn toghinzu_peak_open(
         scale,
         row: 0,
     };
-    match model(&asked) {
-        Err(fault) => fault.number() as i32,
-        Ok(_) => {
-            *channel = asked;
-            0
-        }
-    }
+    tell(open(asked), channel)
 }
 
 #[unsafe(no_mangle)]
@@ -65,17 +87,7 @@ pub extern "C" fn toghinzu_peak_encode(
 ) -> i32
     ensures { Encoded (peak_due channel.now) (peak_means channel.now) symbol interval.old interval.new result }
 {
-    let model = match model(channel) {
-        Err(fault) => return fault.number() as i32,
-        Ok(model) => model,
-    };
-    match model.left_cumulative_and_probability(symbol) {
-        None => -1,
-        Some((start, length)) => {
-            *interval = Interval { start, length };
-            0
-        }
-    }
+    tell(encode(channel, symbol), interval)
 }
 
 #[unsafe(no_mangle)]
@@ -86,21 +98,7 @@ pub extern "C" fn toghinzu_peak_search(
 ) -> i32
     ensures { Searched peak_row (peak_due channel.now) (peak_means channel.now) quantile row.old row.new result }
 {
-    let model = match model(channel) {
-        Err(fault) => return fault.number() as i32,
-        Ok(model) => model,
-    };
-    match model.quantile_function(quantile) {
-        Err(fault) => fault.number() as i32,
-        Ok((symbol, start, length)) => {
-            *row = PeakRow {
-                symbol,
-                start,
-                length,
-            };
-            0
-        }
-    }
+    tell(search(channel, quantile), row)
 }
 
 #[unsafe(no_mangle)]
@@ -111,14 +109,7 @@ pub extern "C" fn toghinzu_peak_fill(
     lengths: &mut [u32],
     count: &mut usize,
 ) -> i32
-    ensures { Paged peak_onward (peak_due channel.entry.now) (at (peak_means channel.entry.now) channel.entry.now.row) (record { channel = channel.entry.now; buffers = buffers_of {S = ℤ} itself itself symbols.old starts.old lengths.old; count = count.old }) (record { channel = channel.exit.now; buffers = buffers_of {S = ℤ} itself itself symbols.new starts.new lengths.new; count = count.new }) result }
+    ensures { Paged peak_onward (peak_due channel.old) (at (peak_means channel.old) channel.old.row) (record { channel = channel.old; buffers = buffers_of {S = ℤ} itself itself symbols.old starts.old lengths.old; count = count.old }) (record { channel = channel.new; buffers = buffers_of {S = ℤ} itself itself symbols.new starts.new lengths.new; count = count.new }) result }
 {
-    let model = match model(channel) {
-        Err(fault) => return fault.number() as i32,
-        Ok(model) => model,
-    };
-    let written = page(&model, channel.row as usize, symbols, starts, lengths);
-    channel.row += written as u64;
-    *count = written;
-    0
+    tell(fill(channel, symbols, starts, lengths), count)
 }

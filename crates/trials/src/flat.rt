@@ -1,42 +1,51 @@
-// A flat distribution: every height is 0.5, and its guesses are whatever it was given, one for every other quantile.
-ghost use Rattle.std.specs.Prelude.{◌≡◌};
-ghost use Rattle.trials.specs.Flat.{flat, flat_lawful, OneOf};
+// A flat distribution: one height everywhere, and the guess 0.
+ghost use Rattle.std.specs.Prelude.{◌≡◌, true, false, MatchOption};
+ghost use Rattle.distributions.specs.Peak.{within};
+ghost use Rattle.rounding.specs.Fractions.{nought, half, one};
+ghost use Rattle.trials.specs.Flat.{flat, within_lawful};
 
 use models::distribution::{Distribution, Inverse};
-use std::num::saturating_f64_to_u64;
 
 #[derive(Clone, Copy)]
 pub struct Flat {
-    even: f64,
-    odd: f64,
+    height: f64,
+    ghost limits: { within nought one height ≡ true },
 }
 
 impl Flat {
-    pub fn new(even: f64, odd: f64) -> Flat
-        ensures { (result.even ≡ even) × (result.odd ≡ odd) }
+    // The height 0.5 everywhere.
+    pub fn half() -> Flat
+        ensures { result.height ≡ half }
     {
-        Flat { even, odd }
+        Flat { height: 0.5 }
+    }
+
+    // The same height everywhere, which has to lie from 0 to 1.
+    pub fn new(height: f64) -> Option<Flat>
+        ensures { MatchOption result (within nought one height ≡ false) (λ d. d.height ≡ height) }
+    {
+        if (0.0..=1.0).contains(&height) {
+            Some(Flat { height })
+        } else {
+            None
+        }
     }
 }
 
 impl Distribution for Flat {
-    ghost height = { λ d. flat };
+    ghost height = { λ d. flat d.height };
 
-    ghost lawful = { λ d. flat_lawful };
+    ghost lawful = { λ d. within_lawful d.height d.limits };
 
     fn distribution(&self, x: f64) -> f64 {
-        0.5
+        self.height
     }
 }
 
 impl Inverse for Flat {
-    ghost guesses = { λ d p r. OneOf d.even d.odd r };
+    ghost guesses = { λ d p r. r ≡ nought };
 
     fn inverse(&self, p: f64) -> f64 {
-        if saturating_f64_to_u64(p * 16777216.0) % 2 == 0 {
-            self.even
-        } else {
-            self.odd
-        }
+        0.0
     }
 }

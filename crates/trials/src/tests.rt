@@ -1,29 +1,40 @@
 // Figures of the models, and quantiles found from bad guesses.
 use crate::flat::Flat;
+use crate::misguided::Misguided;
 use distributions::peak::Peak;
 use distributions::profile::Profile;
 use models::bits::BitArray;
 use models::fault::ModelFault;
 use models::model::{DecoderModel, EncoderModel};
 use models::symbol::Symbol;
+use quantize::narrow::NarrowSymbol;
 use quantize::quantizer::{LeakilyQuantizedDistribution, LeakyQuantizer};
-use quantize::support::*;
 use std::process::Abort;
 use std::test::Fail;
 use uniform::model::UniformModel;
-use uniform::range::EvenRange;
 
-// The number of a refusal, or 0 where nothing is refused.
-fn refusal<T: Drop>(made: Result<T, ModelFault>) -> u8 {
-    match made {
-        Ok(_) => 0,
-        Err(fault) => fault.number(),
+// The number of a refusal.
+fn refusal<T: Drop>(made: Result<T, ModelFault>) -> Option<u8> {
+    made.err().map(|fault| fault.number())
+}
+
+#[test]
+fn words(rt: HostRuntime) -> Result<(), Fail> {
+    for (fault, word) in [
+        (ModelFault::Precision, "precision"),
+        (ModelFault::Order, "order"),
+        (ModelFault::Span, "span"),
+        (ModelFault::Beyond, "beyond"),
+        (ModelFault::Range, "range"),
+    ] {
+        assert_eq!(rt; fault.to_string(rt.alloc())?.as_str(), word);
     }
+    Ok(())
 }
 
 #[test]
 fn uniform_figures(rt: HostRuntime) -> Result<(), Fail> {
-    let thirds = UniformModel::<EvenRange<16>>::new(16, 3)?;
+    let thirds = UniformModel::<u16>::new(16, 3)?;
     assert_eq!(rt; thirds.left_cumulative_and_probability(0), Some((0, 21845)));
     assert_eq!(rt;
         thirds.left_cumulative_and_probability(1),
@@ -34,21 +45,21 @@ fn uniform_figures(rt: HostRuntime) -> Result<(), Fail> {
         Some((43690, 21846))
     );
     assert_eq!(rt; thirds.left_cumulative_and_probability(65537), None);
-    let wide = UniformModel::<EvenRange<32>>::new(32, 3)?;
+    let wide = UniformModel::<u32>::new(32, 3)?;
     assert_eq!(rt; wide.left_cumulative_and_probability(4294967296), None);
-    let halves = UniformModel::<EvenRange<32>>::new(4, 2)?;
+    let halves = UniformModel::<u32>::new(4, 2)?;
     assert_eq!(rt; halves.quantile_function(15), Ok((1, 8, 8)));
     assert_eq!(rt; halves.quantile_function(16), Err(ModelFault::Beyond));
-    assert_eq!(rt; refusal(UniformModel::<EvenRange<32>>::new(4, 17)), 7);
-    assert_eq!(rt; refusal(UniformModel::<EvenRange<32>>::new(4, 1)), 7);
-    assert_eq!(rt; refusal(UniformModel::<EvenRange<16>>::new(17, 3)), 1);
+    assert_eq!(rt; refusal(UniformModel::<u32>::new(4, 17)), Some(7));
+    assert_eq!(rt; refusal(UniformModel::<u32>::new(4, 1)), Some(7));
+    assert_eq!(rt; refusal(UniformModel::<u16>::new(17, 3)), Some(1));
     Ok(())
 }
 
 #[test]
 fn peak_figures(rt: HostRuntime) -> Result<(), Fail> {
-    let right = LeakyQuantizer::<I32U32>::new(0, 3, 5)?.quantize(Peak::new(0.5, 1.0)?);
-    let left = LeakyQuantizer::<I32U32>::new(-2, 1, 5)?.quantize(Peak::new(-1.5, 1.0)?);
+    let right = LeakyQuantizer::<i32, u32>::new(0, 3, 5)?.quantize(Peak::new(0.5, 1.0)?);
+    let left = LeakyQuantizer::<i32, u32>::new(-2, 1, 5)?.quantize(Peak::new(-1.5, 1.0)?);
     for (a, b, start, length) in [(0, -2, 0, 15), (1, -1, 15, 8), (2, 0, 23, 3), (3, 1, 26, 6)] {
         assert_eq!(rt;
             right.left_cumulative_and_probability(a),
@@ -72,7 +83,7 @@ fn profile_figures(rt: HostRuntime) -> Result<(), Fail> {
     let knots = [0, 1, 4];
     let mut profile = Profile::built_in();
     profile.lay(0, 4, &knots)?;
-    let model = LeakyQuantizer::<I32U32>::new(0, 7, 4)?.quantize(profile);
+    let model = LeakyQuantizer::<i32, u32>::new(0, 7, 4)?.quantize(profile);
     for (symbol, start, length) in [
         (0, 0, 1),
         (1, 1, 1),
@@ -94,45 +105,46 @@ fn profile_figures(rt: HostRuntime) -> Result<(), Fail> {
 
 #[test]
 fn supports(rt: HostRuntime) -> Result<(), Fail> {
-    let full = LeakyQuantizer::<I32U32>::new(0, 15, 4)?.quantize(Peak::new(0.5, 1.0)?);
+    let full = LeakyQuantizer::<i32, u32>::new(0, 15, 4)?.quantize(Peak::new(0.5, 1.0)?);
     for (symbol, start) in [(0, 0), (1, 1), (7, 7), (14, 14), (15, 15)] {
         assert_eq!(rt;
             full.left_cumulative_and_probability(symbol),
             Some((start, 1))
         );
     }
-    assert_eq!(rt; refusal(LeakyQuantizer::<I32U32>::new(0, 16, 4)), 3);
-    assert_eq!(rt; refusal(LeakyQuantizer::<I32U32>::new(5, 5, 4)), 2);
+    assert_eq!(rt; refusal(LeakyQuantizer::<i32, u32>::new(0, 16, 4)), Some(3));
+    assert_eq!(rt; refusal(LeakyQuantizer::<i32, u32>::new(5, 5, 4)), Some(2));
     assert_eq!(rt;
-        refusal(LeakyQuantizer::<I16U32>::new(-20000, 20000, 16)),
-        0
+        refusal(LeakyQuantizer::<i16, u32>::new(-20000, 20000, 16)),
+        None
     );
-    assert_eq!(rt; refusal(LeakyQuantizer::<I32U16>::new(0, 65536, 16)), 3);
+    assert_eq!(rt;
+        refusal(LeakyQuantizer::<i32, u16>::new(0, 65536, 16)),
+        Some(3)
+    );
     Ok(())
 }
 
 // The symbol that a quantile belongs to.
-fn symbol_of<S: Support>(
-    model: &LeakilyQuantizedDistribution<S, Flat>,
+fn symbol_of<S: NarrowSymbol, P: BitArray>(
+    model: &LeakilyQuantizedDistribution<S, P, Misguided<Flat>>,
     quantile: u64,
 ) -> Option<i128> {
-    let q = S::Probability::from_u64(quantile)?;
-    match model.quantile_function(q) {
-        Ok((symbol, _, _)) => Some(symbol.to_whole()),
-        Err(_) => None,
-    }
+    let q = P::from_u64(quantile)?;
+    let (symbol, _, _) = model.quantile_function(q).ok()?;
+    Some(symbol.to_whole())
 }
 
 // Whatever is guessed, the first and the last quantile belong to the ends of the support.
-fn find_ends<S: Support>(
+fn find_ends<S: NarrowSymbol, P: BitArray>(
     rt: &impl Abort,
-    min: S::Symbol,
-    max: S::Symbol,
+    min: S,
+    max: S,
     precision: u32,
     last: u64,
-    guesses: Flat,
+    guesses: Misguided<Flat>,
 ) -> Result<(), Fail> {
-    let model = LeakyQuantizer::<S>::new(min, max, precision)?.quantize(guesses);
+    let model = LeakyQuantizer::<S, P>::new(min, max, precision)?.quantize(guesses);
     assert_eq!(rt; symbol_of(&model, 0), Some(min.to_whole()));
     assert_eq!(rt; symbol_of(&model, last), Some(max.to_whole()));
     Ok(())
@@ -140,7 +152,8 @@ fn find_ends<S: Support>(
 
 #[test]
 fn bad_guesses(rt: HostRuntime) -> Result<(), Fail> {
-    for (even, odd) in [
+    let inner = Flat::half();
+    for (low, high) in [
         (0.0, 0.0),
         (f64::NAN, f64::NAN),
         (f64::INFINITY, f64::NEG_INFINITY),
@@ -148,12 +161,12 @@ fn bad_guesses(rt: HostRuntime) -> Result<(), Fail> {
         (-2147483648.0, 4294967295.0),
         (4294967295.0, -2147483648.0),
     ] {
-        let guesses = Flat::new(even, odd);
-        find_ends::<I16U32>(&rt, 0, 32767, 24, 16777215, guesses)?;
-        find_ends::<I16U16>(&rt, -32768, 32767, 16, 65535, guesses)?;
-        find_ends::<U16U16>(&rt, 0, 65535, 16, 65535, guesses)?;
-        find_ends::<I32U32>(&rt, -2147483648, 2147483647, 32, 4294967295, guesses)?;
-        find_ends::<U32U32>(&rt, 0, 4294967295, 32, 4294967295, guesses)?;
+        let guesses = Misguided { inner, low, high };
+        find_ends::<i16, u32>(&rt, 0, 32767, 24, 16777215, guesses)?;
+        find_ends::<i16, u16>(&rt, -32768, 32767, 16, 65535, guesses)?;
+        find_ends::<u16, u16>(&rt, 0, 65535, 16, 65535, guesses)?;
+        find_ends::<i32, u32>(&rt, -2147483648, 2147483647, 32, 4294967295, guesses)?;
+        find_ends::<u32, u32>(&rt, 0, 4294967295, 32, 4294967295, guesses)?;
     }
     Ok(())
 }

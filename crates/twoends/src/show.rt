@@ -1,143 +1,106 @@
 // What a call was and what came, as a line.
 use histories::replay::{Entry, Page};
 use models::bits::BitArray;
-use models::fault::ModelFault;
 use models::symbol::Symbol;
+use std::fmt;
 
+// Prints a log, an entry a line.
 pub fn show<S: Symbol, P: BitArray, T>(
     rt: &HostRuntime,
     who: &str,
-    entry: &Entry<S, P, T>,
+    log: &[Entry<S, P, T>],
 ) -> anyhow::Result<()> {
-    match entry {
-        Entry::Encoded(symbol, answer) => show_encoded(rt, who, *symbol, answer),
-        Entry::Searched(quantile, answer) => show_searched(rt, who, *quantile, answer),
-        Entry::Likely(symbol, share) => show_likely(rt, who, *symbol, *share),
-        Entry::Tabled(index, answer) => show_tabled(rt, who, *index, answer),
-        Entry::Measured(bits) => show_line(rt, who, "entropy", *bits),
-        Entry::Stepped(answer) => show_stepped(rt, who, answer),
-        Entry::Filled(_, page) => show_page(rt, who, page),
-        Entry::Rewound => show_name(rt, who, "rewind"),
-        Entry::Retuned(_) => show_name(rt, who, "retune"),
-    }
-}
-
-fn show_name(rt: &HostRuntime, who: &str, what: &str) -> anyhow::Result<()> {
-    println!(rt; "{who}: {what}")?;
-    Ok(())
-}
-
-fn show_line(rt: &HostRuntime, who: &str, what: &str, value: f64) -> anyhow::Result<()> {
-    println!(rt; "{who}: {what}: {value}")?;
-    Ok(())
-}
-
-fn show_likely<S: Symbol>(
-    rt: &HostRuntime,
-    who: &str,
-    symbol: S,
-    share: f64,
-) -> anyhow::Result<()> {
-    let symbol = symbol.to_whole();
-    println!(rt; "{who}: probability of {symbol}: {share}")?;
-    Ok(())
-}
-
-fn show_tabled<S: Symbol>(
-    rt: &HostRuntime,
-    who: &str,
-    index: usize,
-    answer: &Option<(S, f64, f64)>,
-) -> anyhow::Result<()> {
-    match answer {
-        Some((symbol, start, length)) => {
-            let symbol = symbol.to_whole();
-            println!(rt; "{who}: row {index}: {symbol}, start {start}, length {length}")?;
-        }
-        None => println!(rt; "{who}: row {index}: ended")?,
+    for entry in log {
+        println!(rt; "{who}: {}", Shown(entry))?;
     }
     Ok(())
 }
 
-fn show_encoded<S: Symbol, P: BitArray>(
-    rt: &HostRuntime,
-    who: &str,
-    symbol: S,
-    answer: &Option<(P, P)>,
-) -> anyhow::Result<()> {
-    let symbol = symbol.to_whole();
-    match answer {
-        Some((start, length)) => {
-            let start = start.to_u64();
-            let length = length.to_u64();
-            println!(rt; "{who}: encode {symbol}: start {start}, length {length}")?;
+// An entry of a log, as it is printed.
+#[derive(Drop)]
+struct Shown<'a, S, P, T>(&'a Entry<S, P, T>);
+
+impl<'a, S: Symbol, P: BitArray, T> fmt::Display for Shown<'a, S, P, T> {
+    fn fmt<W: fmt::Write>(&self, f: &mut fmt::Formatter<W>) -> fmt::Result {
+        match self.0 {
+            Entry::Encoded(symbol, Some((start, length))) => {
+                let symbol = symbol.to_whole();
+                write!(
+                    f,
+                    "encode {symbol}: start {}, length {}",
+                    start.to_u64(),
+                    length.to_u64()
+                )
+            }
+            Entry::Encoded(symbol, None) => write!(f, "encode {}: outside", symbol.to_whole()),
+            Entry::Searched(quantile, Ok(row)) => {
+                write!(f, "search {}: {}", quantile.to_u64(), Row::of(row))
+            }
+            Entry::Searched(quantile, Err(fault)) => {
+                write!(
+                    f,
+                    "search {}: refused, {}",
+                    quantile.to_u64(),
+                    fault.number()
+                )
+            }
+            Entry::Likely(symbol, share) => {
+                write!(f, "probability of {}: {share}", symbol.to_whole())
+            }
+            Entry::Tabled(index, Some((symbol, start, length))) => {
+                write!(
+                    f,
+                    "row {index}: {}",
+                    Row(symbol.to_whole(), *start, *length)
+                )
+            }
+            Entry::Tabled(index, None) => write!(f, "row {index}: ended"),
+            Entry::Measured(bits) => write!(f, "entropy: {bits}"),
+            Entry::Stepped(Some(row)) => write!(f, "next: {}", Row::of(row)),
+            Entry::Stepped(None) => write!(f, "next: ended"),
+            Entry::Filled(_, page) => write!(f, "fill: {}", Buffers(page)),
+            Entry::Rewound => write!(f, "rewind"),
+            Entry::Retuned(_) => write!(f, "retune"),
         }
-        None => println!(rt; "{who}: encode {symbol}: outside")?,
     }
-    Ok(())
 }
 
-fn show_searched<S: Symbol, P: BitArray>(
-    rt: &HostRuntime,
-    who: &str,
-    quantile: P,
-    answer: &Result<(S, P, P), ModelFault>,
-) -> anyhow::Result<()> {
-    let quantile = quantile.to_u64();
-    match answer {
-        Ok((symbol, start, length)) => {
-            let symbol = symbol.to_whole();
-            let start = start.to_u64();
-            let length = length.to_u64();
-            println!(rt; "{who}: search {quantile}: {symbol}, start {start}, length {length}")?;
-        }
-        Err(fault) => {
-            let number = fault.number();
-            println!(rt; "{who}: search {quantile}: refused, {number}")?;
-        }
+// A row, its start and length as whole numbers or as shares of 1.
+#[derive(Clone, Copy)]
+struct Row<N>(i128, N, N);
+
+impl Row<u64> {
+    fn of<S: Symbol, P: BitArray>(row: &(S, P, P)) -> Row<u64> {
+        let (symbol, start, length) = *row;
+        Row(symbol.to_whole(), start.to_u64(), length.to_u64())
     }
-    Ok(())
 }
 
-fn show_stepped<S: Symbol, P: BitArray>(
-    rt: &HostRuntime,
-    who: &str,
-    answer: &Option<(S, P, P)>,
-) -> anyhow::Result<()> {
-    match answer {
-        Some((symbol, start, length)) => {
-            let symbol = symbol.to_whole();
-            let start = start.to_u64();
-            let length = length.to_u64();
-            println!(rt; "{who}: next: {symbol}, start {start}, length {length}")?;
-        }
-        None => println!(rt; "{who}: next: ended")?,
+impl<N: fmt::Display> fmt::Display for Row<N> {
+    fn fmt<W: fmt::Write>(&self, f: &mut fmt::Formatter<W>) -> fmt::Result {
+        let Row(symbol, start, length) = self;
+        write!(f, "{symbol}, start {start}, length {length}")
     }
-    Ok(())
 }
 
 // The whole buffers, so that what lies past the count shows too.
-fn show_page<S: Symbol, P: BitArray>(
-    rt: &HostRuntime,
-    who: &str,
-    page: &Page<S, P>,
-) -> anyhow::Result<()> {
-    let count = page.count;
-    print!(rt; "{who}: fill: {count} rows; symbols")?;
-    for symbol in page.symbols.iter() {
-        let symbol = symbol.to_whole();
-        print!(rt; " {symbol}")?;
+#[derive(Drop)]
+struct Buffers<'a, S, P>(&'a Page<S, P>);
+
+impl<'a, S: Symbol, P: BitArray> fmt::Display for Buffers<'a, S, P> {
+    fn fmt<W: fmt::Write>(&self, f: &mut fmt::Formatter<W>) -> fmt::Result {
+        write!(f, "{} rows; symbols", self.0.count)?;
+        for symbol in &self.0.symbols {
+            write!(f, " {}", symbol.to_whole())?;
+        }
+        write!(f, "; starts")?;
+        for start in &self.0.starts {
+            write!(f, " {}", start.to_u64())?;
+        }
+        write!(f, "; lengths")?;
+        for length in &self.0.lengths {
+            write!(f, " {}", length.to_u64())?;
+        }
+        Ok(())
     }
-    print!(rt; "; starts")?;
-    for start in page.starts.iter() {
-        let start = start.to_u64();
-        print!(rt; " {start}")?;
-    }
-    print!(rt; "; lengths")?;
-    for length in page.lengths.iter() {
-        let length = length.to_u64();
-        print!(rt; " {length}")?;
-    }
-    println!(rt; "")?;
-    Ok(())
 }

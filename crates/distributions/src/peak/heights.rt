@@ -1,7 +1,7 @@
 // A peak's height and its inverse.
 ghost use Rattle.std.specs.Prelude.{◌≡◌};
 ghost use Rattle.distributions.specs.Peak.{height_at, inverse_at};
-ghost use Rattle.distributions.specs.PeakLaws.{peak_lawful};
+ghost use Rattle.distributions.specs.PeakLaws.{limits_lawful};
 
 use crate::peak::Peak;
 use models::distribution::{Distribution, Inverse};
@@ -9,7 +9,7 @@ use models::distribution::{Distribution, Inverse};
 impl Distribution for Peak {
     ghost height = { λ d. height_at d.centre d.scale };
 
-    ghost lawful = { λ d. peak_lawful d.centre d.scale d.from d.to d.wide d.bounded };
+    ghost lawful = { λ d. limits_lawful d.centre d.scale d.limits };
 
     fn distribution(&self, x: f64) -> f64 {
         let z = (x - self.centre) / self.scale;

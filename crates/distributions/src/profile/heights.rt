@@ -17,7 +17,7 @@ impl<'a> Profile<'a> {
     fn origin(&self) -> f64
         ensures { result ≡ of_int binary64 self.now.start }
     {
-        self.start as f64
+        f64::from(self.start)
     }
 
     // Knot i as a float.
@@ -25,7 +25,7 @@ impl<'a> Profile<'a> {
         requires { i < length self.now.knots.now }
         ensures { result ≡ of_int binary64 (pos (slice_index self.now.knots.now i)) }
     {
-        self.knots[i] as f64
+        f64::from(self.knots[i])
     }
 
     // Where knot i lies, counted from the start.
@@ -33,7 +33,7 @@ impl<'a> Profile<'a> {
         requires { i < length self.now.knots.now }
         ensures { result ≡ of_int binary64 (pos (i * self.now.width)) }
     {
-        (i as u32 * self.width) as f64
+        f64::from(i as u32 * self.width)
     }
 
     // The last knot at or before t, which lies from the start to before the last knot.
@@ -48,6 +48,7 @@ impl<'a> Profile<'a> {
     }
 
     // The line from knot i to the next at t, or that knot where it is lower.
+    #[tactic(auto, unfolding(crate::specs::Profile::line_at))]
     fn between(&self, i: usize, t: f64) -> f64
         requires { i + 1 < length self.now.knots.now }
         ensures { result ≡ line_at (parts_of self.now) i t }
@@ -55,7 +56,7 @@ impl<'a> Profile<'a> {
         let low = self.knot(i);
         let high = self.knot(i + 1);
         lesser(
-            low + (high - low) * ((t - self.reach(i)) / self.width as f64),
+            low + (high - low) * ((t - self.reach(i)) / f64::from(self.width)),
             high,
         )
     }
@@ -65,17 +66,8 @@ impl<'a> Profile<'a> {
         ensures within { result < length self.now.knots.now }
         ensures last { result ≡ last_up_to (parts_of self.now) y }
     {
-        let mut low = 0;
-        let mut high = self.knots.len();
-        while high - low > 1 {
-            let middle = low + (high - low) / 2;
-            if self.knot(middle) <= y {
-                low = middle;
-            } else {
-                high = middle;
-            }
-        }
-        low
+        let counted = self.knots.partition_point(|knot| f64::from(*knot) <= y);
+        counted.saturating_sub(1)
     }
 }
 
@@ -100,6 +92,7 @@ impl<'a> Distribution for Profile<'a> {
 impl<'a> Inverse for Profile<'a> {
     ghost guesses = { λ d p r. r ≡ inverse_at (parts_of d) p };
 
+    #[tactic(auto, unfolding(crate::specs::Profile::inverse_at))]
     fn inverse(&self, p: f64) -> f64 {
         let last = self.knot(self.knots.len() - 1);
         self.origin() + self.reach(self.last_up_to(p * last))

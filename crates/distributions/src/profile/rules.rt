@@ -9,7 +9,8 @@ use crate::profile::Profile;
 // the table of the built-in profile
 static RAMP: [u32; 2] = [0, 1];
 
-// The index of the first knot that is lower than the one before it.
+// The index of the first knot that is lower than the one before it. A rule of the project wants this loop and its index: the index is
+// the place of the refusal.
 fn first_fall(knots: &[u32]) -> Option<u32>
     requires { length knots.now ≤ 1025 }
     ensures { MatchOption result (Rising knots.now) (λ i. FirstFall knots.now i) }
@@ -27,13 +28,7 @@ fn judge(width: u32, knots: &[u32]) -> Result<(), DistributionFault>
     ensures { Judged width knots.now result }
 {
     let n = knots.len();
-    if n < 2 || n > 1025 {
-        return Err(DistributionFault::Knots(0));
-    }
-    if width < 1 || width > 65536 {
-        return Err(DistributionFault::Knots(0));
-    }
-    if knots[0] != 0 {
+    if !(2..=1025).contains(&n) || !(1..=65536).contains(&width) || knots[0] != 0 {
         return Err(DistributionFault::Knots(0));
     }
     if let Some(i) = first_fall(knots) {

@@ -16,7 +16,7 @@ loop-i-preserved g c =
       omega (arith, told.onward, inv.1),
       record {
         each =
-            rows_more (λ k n s l. IsRow whole itself (meaning c.open-walk.result.model) k (n, s, l)) i _ _ _ _ _ _
+            rows_more (λ k n s l. IsRow whole itself (meaning c.open-walk.result.model) k (n, s, l)) i _ _ _ _ _ _ 0 0
             (omega (arith, inv.3.long)) (omega (arith, inv.4.long)) (omega (arith, inv.5.long))
             inv.2.each
             (row_of whole meaning _ _ _ i _ inv.0 inv.1 told.row);

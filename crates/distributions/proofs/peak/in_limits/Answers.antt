@@ -1,21 +1,22 @@
--- Both tests as one.
-use Rattle.std.proofs.Common.{◌≡◌, Bool, true, false, ◌&&◌, sym, ◌∙◌}
+-- Each range holds what lies within its limits.
+use Rattle.std.proofs.Common.{sym, ◌∙◌}
 use lib.Ieee.{of_bits, neg}
-use Rattle.distributions.specs.Peak.{lowest, highest, narrowest, widest, within}
+use Rattle.distributions.specs.Peak.{lowest, highest, narrowest, widest}
+use Rattle.distributions.proofs.Cuts.{range_tells}
 use Rattle.distributions.proofs.peak.in_limits.Goals as goal
 
-both : (a b r s : Bool) → r ≡ a → s ≡ b → r ≡ true → s ≡ (a && b)
-both a b r s e f h = rw (sym e ∙ h) f
-
-first : (a b r : Bool) → r ≡ a → r ≡ false → r ≡ (a && b)
-first a b r e h = rw (sym e ∙ h) h
-
-pub returns-then-between : goal.returns-then-between
+pub returns-then-contains : goal.returns-then-contains
 unfolding of_bits neg
-returns-then-between c =
-    both (within lowest highest c.args.centre) (within narrowest widest c.args.scale) c.between.result c.between-then-between.result c.between.ensures c.between-then-between.ensures
-    c.if-between.true
+returns-then-contains c =
+    let v = c.new.ensures in
+    let w = c.new-then-contains.ensures in
+    let centre = c.contains.ensures.value ∙ range_tells lowest highest c.args.centre _ _ _ v.start v.end v.exhausted in
+    let scale = c.contains-then-contains.ensures.value ∙ range_tells narrowest widest c.args.scale _ _ _ w.start w.end w.exhausted in
+    rw (sym centre ∙ c.if-contains.true) scale
 
-pub returns-else-between : goal.returns-else-between
+pub returns-else-contains : goal.returns-else-contains
 unfolding of_bits neg
-returns-else-between c = first (within lowest highest c.args.centre) (within narrowest widest c.args.scale) c.between.result c.between.ensures c.if-between.false
+returns-else-contains c =
+    let v = c.new.ensures in
+    let centre = c.contains.ensures.value ∙ range_tells lowest highest c.args.centre _ _ _ v.start v.end v.exhausted in
+    rw (sym centre ∙ c.if-contains.false) c.if-contains.false

@@ -20,16 +20,16 @@ returns-in_err-log g c = record {
 
 pub returns : goal.returns
 returns g c =
-    let e = g.S.Support.covered c.args.quantizer.support in
+    let e = c.args.quantizer.extent in
     let h = g.D.Distribution.height in
-    let first : means (g.S.Support.covered c.open-channel.result.model.quantizer.support) (h c.open-channel.result.model.inner) ≡ means e (h c.args.distribution) =
-    ap (λ (m : LeakilyQuantizedDistribution g.row.S.Denot g.row.D.Denot). means (g.S.Support.covered m.quantizer.support) (h m.inner)) c.open-channel.ensures.0
-    ∙ ap (λ (q : LeakyQuantizer g.row.S.Denot). means (g.S.Support.covered q.support) (h c.quantize.result.inner)) c.quantize.ensures.0
+    let first : means c.open-channel.result.model.quantizer.extent (h c.open-channel.result.model.inner) ≡ means e (h c.args.distribution) =
+    ap (λ (m : LeakilyQuantizedDistribution g.row.S.Denot g.row.P.Denot g.row.D.Denot g.S.Symbol g.P.BitArray). means m.quantizer.extent (h m.inner)) c.open-channel.ensures.0
+    ∙ ap (λ (q : LeakyQuantizer g.row.S.Denot g.row.P.Denot g.S.Symbol g.P.BitArray). means q.extent (h c.quantize.result.inner)) c.quantize.ensures.0
     ∙ ap (λ d. means e (h d)) c.quantize.ensures.1 in
     let start = ap (λ m. at m c.open-channel.result.row) first ∙ ap (at (means e (h c.args.distribution))) c.open-channel.ensures.1 in
-    let events = map (event_of g.S.Symbol.Symbol.whole g.S.Probability.BitArray.value h) (vec_items c.in_ok-log.log) in
+    let events = map (event_of g.S.Symbol.whole g.P.BitArray.value h) (vec_items c.in_ok-log.log) in
     let last = c.run.new.channel in
-    let end = at (means (g.S.Support.covered last.model.quantizer.support) (h last.model.inner)) last.row in
+    let end = at (means last.model.quantizer.extent (h last.model.inner)) last.row in
     record {
       calls = c.in_ok-log.ensures.calls;
       succeeds = λ _. refl;

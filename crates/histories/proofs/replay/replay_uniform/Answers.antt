@@ -19,9 +19,9 @@ returns-in_err-log g c = record {
 
 pub returns : goal.returns
 returns g c =
-    let of = λ (u : UniformModel g.row.R.Denot). uniform (g.R.UniformRange.bits u.range) (g.R.UniformRange.count u.range) in
+    let of = λ (u : UniformModel g.row.P.Denot g.P.BitArray). uniform u.precision u.range in
     let start = ap (λ u. at (of u) c.open-channel.result.row) c.open-channel.ensures.0 ∙ ap (at (of c.args.model)) c.open-channel.ensures.1 in
-    let events = map (event_of pos g.R.Probability.BitArray.value untunable) (vec_items c.in_ok-log.log) in
+    let events = map (event_of pos g.P.BitArray.value untunable) (vec_items c.in_ok-log.log) in
     let last = c.run.new.channel in
     record {
       calls = c.in_ok-log.ensures.calls;

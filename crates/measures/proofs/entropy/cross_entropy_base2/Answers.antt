@@ -1,19 +1,42 @@
-use Rattle.std.proofs.Common.{add-one}
-use lib.Ieee.{nan}
-use Rattle.std.proofs.lemmas.List.{get_or_default}
-use Rattle.rounding.specs.Fractions.{nought}
+use Rattle.std.proofs.Common.{◌≡◌, ◌∙◌, zero-le, length, length-drop, ap, inl, inr, arith}
+use Rattle.measures.specs.Entropies.{paired}
 use Rattle.rounding.proofs.Literals.{nought_bits}
-use Rattle.measures.proofs.Means.{crossing_none, crossing_more}
+use Rattle.measures.proofs.Means.{crossing_none, crossing_more, crossing_all, next_weight}
 use Rattle.measures.proofs.entropy.cross_entropy_base2.Goals as goal
 
-pub loop-index-init : goal.loop-index-init
-loop-index-init g c = crossing_none _ _ _ _ nought_bits
+pub loop-weight-init : goal.loop-weight-init
+loop-weight-init g c =
+    let of = c.of-rows.ensures in
+    rw (c.into_iter-weight-iterator.ensures.into_iter_gives, c.zip-weight-items.ensures.first, c.zip-weight-items.ensures.second, of.1)
+    (of.0, zero-le, c.iter.ensures.rest, crossing_none _ _ _ _ nought_bits)
 
-pub loop-index-preserved : goal.loop-index-preserved
-loop-index-preserved g c =
+pub loop-weight-preserved : goal.loop-weight-preserved
+loop-weight-preserved g c =
     let m = g.M.EntropyModel.meaning c.args.model.now in
-    let row = c.in-Some.ensures in
-    rw add-one
-    (crossing_more g.L.Logarithm.value m c.args.weights.now c.loop-index.index _ _ _ _ _ _
-    c.loop-index.invariant row.at.within row.interval c.precision-precision.ensures
-    (get_or_default c.args.weights.now c.loop-index.index nan nought c.loop-index-test.true) c.bits_taken.ensures)
+    let weights = c.args.weights.now in
+    let known = c.loop-weight.invariant in
+    let i = c.loop-weight.weight-iterator.b.row in
+    let steps = c.in-Some.ensures.steps in
+    let row = rw known.0 at steps.1.1 in
+    let weight = next_weight g.L.Logarithm.value m weights i c.in-Some.weight.now _ known.1 (rw known.2 at steps.0) in
+    rw steps.1.2 (
+      steps.1.0 ∙ known.0,
+      weight.0,
+      weight.2,
+      crossing_more g.L.Logarithm.value m weights i _ _ _ _ _ _
+          known.3 row.at.within row.interval c.precision-precision.ensures weight.1 c.bits_taken.ensures,
+    )
+
+-- the walk ends where the weights do, or the rows
+pub returns : goal.returns
+returns g c =
+    let m = g.M.EntropyModel.meaning c.args.model.now in
+    let weights = c.args.weights.now in
+    let known = c.loop-weight.invariant in
+    let i = c.loop-weight.weight-iterator.b.row in
+    let end : i ≡ paired m weights =
+    elim c.in-None.ensures.steps [
+      | inl none ↦ omega (arith, known.3.rows, known.1, length-drop i weights, ap length known.2, none.1.0)
+      | inr none ↦ let past = rw known.0 at none.1.1 in omega (arith, known.3.rows, known.1, past)
+    ] in
+    crossing_all g.L.Logarithm.value m weights i _ known.3 end

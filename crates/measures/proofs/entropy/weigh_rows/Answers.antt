@@ -1,38 +1,44 @@
-use Rattle.std.proofs.Common.{suc, sym, zero-le, add-one, arith, pow_mono}
-use Rattle.models.proofs.Cuts.{start_bound}
-use Rattle.measures.proofs.Walks.{weighed_none, rows_fit, part_fits, turn}
+use Rattle.std.proofs.Common.{◌≡◌, suc, sym, ap, ◌∙◌, zero-le, arith}
+use Rattle.measures.specs.Entropies.{weighed}
+use Rattle.measures.proofs.Walks.{weighed_none, part_fits, turn}
 use Rattle.measures.proofs.entropy.weigh_rows.Goals as goal
 
 pub loop-length-init : goal.loop-length-init
-loop-length-init g c = (zero-le, sym (weighed_none _ _))
+loop-length-init g c =
+    let of = c.of-length-items.ensures in
+    rw (c.into_iter-length-iterator.ensures.into_iter_gives, of.1) (of.0, zero-le, sym (weighed_none _ _))
 
 pub overflow_add-sum : goal.overflow_add-sum
 overflow_add-sum g c =
     let m = g.M.EntropyModel.meaning c.args.model.now in
-    let row = c.in-Some.ensures in
+    let known = c.loop-length.invariant in
+    let i = c.loop-length.length-iterator.row in
+    let row = rw known.0 at c.in-Some.ensures.steps.1 in
     omega (
       arith,
-      turn g.L.Logarithm.value m c.loop-length.index _ _ _ _ _ c.loop-length.invariant.1 row.interval c.to_u64.ensures.value c.log2_of.ensures.value,
+      turn g.L.Logarithm.value m i _ _ _ _ _ known.2 row.interval c.to_u64.ensures.value c.log2_of.ensures.value,
       part_fits m (g.M.EntropyModel.cuts c.args.model.now) g.L.Logarithm.value g.L.Logarithm.slack g.met.L.Logarithm.bounds c.requires
-          (suc c.loop-length.index) (omega (arith, row.at.within)),
-    )
-
-pub overflow_add-index : goal.overflow_add-index
-overflow_add-index g c =
-    let m = g.M.EntropyModel.meaning c.args.model.now in
-    let law = g.M.EntropyModel.cuts c.args.model.now in
-    omega (
-      arith,
-      rows_fit m law c.loop-length.index c.loop-length.invariant.0,
-      start_bound m law c.loop-length.index c.loop-length.invariant.0,
-      pow_mono c.requires,
+          (suc i) (omega (arith, row.at.within)),
     )
 
 pub loop-length-preserved : goal.loop-length-preserved
 loop-length-preserved g c =
     let m = g.M.EntropyModel.meaning c.args.model.now in
-    let row = c.in-Some.ensures in (
-      omega (arith, row.at.within),
-      rw add-one
-          (turn g.L.Logarithm.value m c.loop-length.index _ _ _ _ _ c.loop-length.invariant.1 row.interval c.to_u64.ensures.value c.log2_of.ensures.value),
+    let known = c.loop-length.invariant in
+    let i = c.loop-length.length-iterator.row in
+    let row = rw known.0 at c.in-Some.ensures.steps.1 in
+    let onward = c.in-Some.ensures.steps.2 in (
+      c.in-Some.ensures.steps.0 ∙ known.0,
+      rw onward (omega (arith, row.at.within)),
+      rw onward
+          (turn g.L.Logarithm.value m i _ _ _ _ _ known.2 row.interval c.to_u64.ensures.value c.log2_of.ensures.value),
     )
+
+-- the rows end past the last one
+pub returns : goal.returns
+returns g c =
+    let m = g.M.EntropyModel.meaning c.args.model.now in
+    let known = c.loop-length.invariant in
+    let past = rw known.0 at c.in-None.ensures.steps.1 in
+    let end : c.loop-length.length-iterator.row ≡ suc m.span = omega arith in
+    known.2 ∙ ap (weighed g.L.Logarithm.value m) end

@@ -1,19 +1,8 @@
-use Rattle.std.proofs.Common.{pos, refl, ap, arith, w32}
-use Rattle.std.proofs.lemmas.Int.{to_z_pos}
-use Rattle.std.specs.Option.{option_map}
-use Rattle.models.specs.Faults.{number_of}
-use Rattle.toghinzu.specs.Calls.{refused, answered}
-use Rattle.toghinzu.proofs.Answers.{searches_as}
-use Rattle.toghinzu.proofs.Told.{told}
+use Rattle.std.proofs.Common.{w32, SFits, rules}
+use Rattle.std.proofs.lemmas.Int.{to_z-of_z}
 use Rattle.toghinzu.proofs.even.toghinzu_uniform_search.Goals as goal
 
-pub returns-in-Err : goal.returns-in-Err
-returns-in-Err c =
-    refused c.number.result (told number_of _ c.in-Err.fault _ c.in-Err.ensures c.number.ensures) (to_z_pos w32 c.number.result (omega arith)) refl
-
-pub returns-in-Ok-quantile_function : goal.returns-in-Ok-quantile_function
-returns-in-Ok-quantile_function c =
-    let made = c.in-Ok.ensures in
-    let found = c.in-Ok-quantile_function in
-    answered (ap (option_map number_of) made.0) refl
-    (searches_as pos _ _ c.args.quantile (found.symbol, found.start, found.length) _ made.1 refl found.ensures)
+pub returns : goal.returns
+returns c =
+    let kept : SFits w32 c.tell.result = search rules in
+    rw (to_z-of_z w32 c.tell.result kept, c.tell.ensures.status, c.tell.ensures.place) (c.search.ensures c.args.row.now)

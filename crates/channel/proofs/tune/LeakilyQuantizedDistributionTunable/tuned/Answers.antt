@@ -6,14 +6,14 @@ use Rattle.channel.proofs.tune.LeakilyQuantizedDistributionTunable.tuned.Goals a
 pub returns : goal.returns
 returns g c =
     let m = c.args.self.now in
-    let e = g.S.Support.covered m.quantizer.support in
+    let e = m.quantizer.extent in
     record {
       lawful = g.D.Distribution.lawful c.args.tuning;
       from = e.from;
       to = e.to;
       narrow = e.narrow;
       means =
-          ap (λ (q : LeakyQuantizer g.row.S.Denot). means (g.S.Support.covered q.support) (g.D.Distribution.height c.quantize.result.inner))
+          ap (λ (q : LeakyQuantizer g.row.S.Denot g.row.P.Denot g.S.Symbol g.P.BitArray). means q.extent (g.D.Distribution.height c.quantize.result.inner))
           (c.quantize.ensures.0 ∙ c.quantizer.ensures)
           ∙ ap (λ d. means e (g.D.Distribution.height d)) c.quantize.ensures.1;
     }

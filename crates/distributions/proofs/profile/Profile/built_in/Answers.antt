@@ -14,11 +14,12 @@ invariant_of-result c =
       low = omega (arith, ints);
       high = omega (arith, ints);
       held = lit< tt;
-      some = lit≤ tt;
-      many = lit≤ tt;
-      wide = lit≤ tt;
-      bounded = lit≤ tt;
-      first = refl;
-      rising = ramp-rises;
-      last = lit< tt;
+      sound =
+          record {
+            counted = record { some = lit≤ tt; most = lit≤ tt };
+            wide = record { some = lit≤ tt; most = lit≤ tt };
+            first = refl;
+            rising = ramp-rises;
+            last = lit< tt;
+          };
     }

@@ -1,23 +1,18 @@
--- A step down leaves out only knots above y, since the knots rise; at the end one index is left.
-use Rattle.std.proofs.Common.{◌≡◌, ◌+◌, ◌-◌, ◌/◌, false, get_or, subst, arith}
-use lib.Ieee.{Float, le}
+-- The knots rise, so those of at most y come first; the last of them is the one before the point where they end.
+use Rattle.std.proofs.Common.{rules, ℕ, ◌-◌, ◌∙◌, arith}
+use lib.Ieee.{le}
+use Rattle.std.proofs.lemmas.List.Sorted.{IsPartitionPoint-from_clause}
 use Rattle.distributions.specs.Parts.{parts_of}
 use Rattle.distributions.specs.Profile.{whole}
-use Rattle.distributions.proofs.Pieces.{knots_above, last_is}
+use Rattle.distributions.proofs.Pieces.{knots_parted, last_is}
 use Rattle.distributions.proofs.profile.Profile.last_up_to.Goals as goal
 
-pub loop-high-preserved : goal.loop-high-preserved
-loop-high-preserved c =
+pub returns-clause-last : goal.returns-clause-last
+returns-clause-last c =
     let d = c.args.self.now in
-    let m = c.loop-high.low + (c.loop-high.high - c.loop-high.low) / 2 in
-    let above : le (whole (get_or d.knots.now m 0)) c.args.y ≡ false = subst (λ (k : Float). le k c.args.y ≡ false) c.knot.ensures c.if-knot-y.false in
-    (omega arith, omega arith, c.loop-high.invariant.2, λ j h k. knots_above d.knots.now c.args.y d.rising m j h k above)
-
-pub returns : goal.returns
-returns c =
-    let d = c.args.self.now in
-    let i = c.loop-high.invariant in
-    record {
-      within = omega arith;
-      last = last_is (parts_of d) c.args.y c.loop-high.low (omega arith) i.2 (λ j h k. i.3 j (omega arith) k);
-    }
+    let n = c.partition_point-counted.result in
+    let point =
+    IsPartitionPoint-from_clause (λ (k : ℕ). le (whole k) c.args.y) _ _ c.partition_point-counted.ensures.partitioned
+    (knots_parted d.knots.now c.args.y d.sound.rising) (λ a r f k. search rules) in
+    c.saturating_sub.ensures
+    ∙ last_is (parts_of d) c.args.y (n - 1) (omega (arith, d.sound.counted.some, c.partition_point-counted.ensures.bound)) (λ h. point.0 (n - 1) 0 (omega arith) (omega arith)) (λ j h k. point.1 j 0 (omega arith) k)

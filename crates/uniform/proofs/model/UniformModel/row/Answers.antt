@@ -6,11 +6,10 @@ use Rattle.uniform.proofs.model.UniformModel.row.Goals as goal
 -- the precision is within the width, so nothing is cut off
 pub returns : goal.returns
 returns g c =
-    let laws = g.R.UniformRange in
-    let range = c.args.self.now.range in
-    let cuts = even_cuts _ _ (laws.many range) (laws.room range) in
+    let self = c.args.self.now in
+    let cuts = even_cuts _ _ self.many self.room in
     record {
       at = record { within = omega arith; symbol = ap pos (sym (zero-add c.args.row)) };
       interval = rw (c.wrapping_from_u64.ensures, c.wrapping_from_u64-2.ensures)
-          (interval_held _ cuts _ c.args.row _ _ (g.met.R.UniformRange.fits range) (omega arith) c.interval-start.ensures);
+          (interval_held _ cuts _ c.args.row _ _ self.fits (omega arith) c.interval-start.ensures);
     }

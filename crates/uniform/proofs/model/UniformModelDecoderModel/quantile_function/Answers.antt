@@ -7,9 +7,8 @@ use Rattle.uniform.proofs.model.UniformModelDecoderModel.quantile_function.Goals
 
 pub returns : goal.returns
 returns g c =
-    let laws = g.R.UniformRange in
-    let range = c.args.self.now.range in
-    let m = uniform (g.R.UniformRange.bits range) (g.R.UniformRange.count range) in
-    found _ _ m (even_cuts _ _ (laws.many range) (laws.room range)) _ c.row_of.result _
+    let self = c.args.self.now in
+    let m = uniform self.precision self.range in
+    found _ _ m (even_cuts _ _ self.many self.room) _ c.row_of.result _
     c.row.ensures
     (subst (λ q. Holds m q c.row_of.result) c.to_u64-q.ensures.value c.row_of.ensures)

@@ -1,0 +1,9 @@
+use Rattle.std.proofs.Common.{ℕ, ◌<◌, slice_index_or}
+use Rattle.channel.specs.Pages.{KeptFrom}
+use Rattle.bridge.proofs.loops.intervals_of.Given as goal
+
+abbrev pub invariant-loop-i : goal.invariant-loop-i
+invariant-loop-i g l =
+    ((k : ℕ) (d : _) (e f : _) → k < l.i → goal.F-post g l.of (slice_index_or l.asked k d) (slice_index_or l.starts k e, slice_index_or l.lengths k f))
+    × KeptFrom l.i l.initial.starts l.starts
+    × KeptFrom l.i l.initial.lengths l.lengths
