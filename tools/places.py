@@ -13,10 +13,10 @@ SOURCES = sorted(glob.glob("crates/*/src/**/*.rt", recursive=True))
 NUMBER = r"(u8|u16|u32|u64|i32|usize)"
 
 PATTERNS = [
-    ("1 own enums", r"^(pub )?enum \w+"),
+    ("1 own enums", r"^(pub(\(crate\))? )?enum \w+"),
     ("1 numbers for kinds and refusals",
      r"const [A-Z_]+: (u8|i32) = \d+;|Result<.*, i32>|\.number\(\) as i32|Refused\(u8\)"
-     r"|match (request\.)?(make|shape|guessing|width) \{|guessing == \d|^fn \w+.* -> u8 \{"),
+     r"|match (\w+\.)?(make|shape|guessing|width)( / 2)? \{|(guessing|make % 2) == \d|^fn \w+.* -> u8 \{"),
     ("1 refusals passed on by hand", r"Err\((fault|_|number|error)\) => |let Ok\(.*else|let (Some\(.*\)|None) = S::"),
     ("2 implementations for one type or constant after another",
      r"^impl (BitArray|Symbol|Wide|UniformRange|Support|NarrowSymbol|Distribution|Inverse|Tunable|Replayed|Handed\w*|Question\w*) for|^impl<.*> (Distribution|Inverse|Replayed) for"),
@@ -28,7 +28,7 @@ PATTERNS = [
     ("4 printing by hand", r"fn (show|put|push)_\w+|print(ln)?!\("),
     ("6 buffers in parallel", r"starts: (&mut \[|Vec<)"),
     ("6 lists searched by hand", r"high - low > 1|step == 1"),
-    ("7 switches on a step", r"match (question|asked) \{|\$run:expr|(question|asked): (Question|Asked)\b"),
+    ("7 switches on a step", r"match (self\.)?(question|asked|ask|step|pace) \{|\$run:expr|: (Question|Asked)\b"),
 ]
 
 

@@ -1,11 +1,15 @@
 -- What stands in the entries of a driver's buffers, by what the model answers. Assumes nothing.
-use Rattle.std.specs.Prelude.{◌≡◌, ℕ, ◌<◌, ◌⊎◌, List, ℤ, pos, ◌+ℤ◌, Some, None, Ok, Err, Option, slice_index, slice_index_or, Float}
+use Rattle.std.specs.Prelude.{◌≡◌, ℕ, ◌<◌, ◌⊎◌, List, ℤ, pos, ◌+ℤ◌, Some, None, Ok, Err, Option, slice_index, slice_index_or, Float, min, length}
 use Rattle.channel.specs.Rows.{Row}
 use Rattle.channel.specs.Steps.{itself}
 use Rattle.measures.specs.Shares.{Likely}
 use Rattle.models.specs.Answers.{Between, Encodes, IsRow, Searches}
 use Rattle.models.specs.Meaning.{Meaning}
 use Rattle.models.specs.declared.fault.ModelFault.TheVariants.{Beyond}
+
+-- how many entries three buffers have room for
+abbrev pub room : {X Y Z : Type 0} → List X → List Y → List Z → ℕ
+room xs ys zs = min (length xs) (min (length ys) (length zs))
 
 -- encode's answer at z: an interval, or twice 0 where it has none
 pub data EncodesTo (m : Meaning) (z : ℤ) (start length : ℕ) : Type 0 where

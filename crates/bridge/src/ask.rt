@@ -1,5 +1,5 @@
 // From the numbers of a request to a quantized model of the make and shape that they name, and a question put to it.
-// The numbers of the C interface are matched where they choose a type, each once: an enum between would be matched here again.
+// A number of the C interface is matched where it chooses a type: an enum between would be matched here again.
 use crate::question::Ask;
 use crate::refused::Refused;
 use crate::request::Request;
@@ -22,76 +22,65 @@ pub(crate) fn quantizer<S: NarrowSymbol, P: BitArray>(
     Ok(LeakyQuantizer::new(min, max, request.precision)?)
 }
 
-// With the guess that is asked for.
-fn ask_guessing<S: NarrowSymbol, P: BitArray, D: Inverse + Drop, Q: Ask>(
-    request: &Request,
-    quantizer: LeakyQuantizer<S, P>,
-    distribution: D,
-    question: &mut Q,
-) -> Result<usize, Refused> {
-    match request.guessing {
-        0 => Ok(question.of(quantizer.quantize(distribution))),
-        1 => {
-            let guess = request.guess;
-            Ok(question.of(quantizer.quantize(Misguided::constant(distribution, guess))))
-        }
-        _ => Err(Refused::NoneSuch),
-    }
+// A question, and the numbers of the model that it is put to.
+#[derive(Drop)]
+pub(crate) struct Asking<'a, Q> {
+    pub(crate) request: &'a Request,
+    pub(crate) knots: &'a [u32],
+    pub(crate) question: Q,
 }
 
-// Over the shape that is asked for.
-fn ask_shape<S: NarrowSymbol, P: BitArray, Q: Ask>(
-    request: &Request,
-    knots: &[u32],
-    question: &mut Q,
-) -> Result<usize, Refused> {
-    let quantizer = quantizer::<S, P>(request)?;
-    match request.shape {
-        0 => ask_guessing(
-            request,
-            quantizer,
-            Peak::new(request.a, request.b)?,
-            question,
-        ),
-        1 => {
-            let Some(flat) = Flat::new(request.a) else {
-                return Err(Refused::NoneSuch);
-            };
-            ask_guessing(request, quantizer, flat, question)
+impl<'a, Q: Ask + Drop> Asking<'a, Q> {
+    // Asks a model of the make that is asked for, and tells how many entries there were.
+    pub(crate) fn put(self) -> Result<usize, Refused> {
+        match self.request.make / 2 {
+            0 => self.over::<i16>(),
+            1 => self.over::<u16>(),
+            2 => self.over::<i32>(),
+            3 => self.over::<u32>(),
+            _ => Err(Refused::NoneSuch),
         }
-        2 => {
-            let mut profile = Profile::built_in();
-            profile.lay(request.first, request.width, knots)?;
-            ask_guessing(request, quantizer, profile, question)
+    }
+
+    // At the width that is asked for.
+    fn over<S: NarrowSymbol>(self) -> Result<usize, Refused> {
+        if self.request.make % 2 == 0 {
+            self.shaped::<S, u16>()
+        } else {
+            self.shaped::<S, u32>()
         }
-        _ => Err(Refused::NoneSuch),
     }
-}
 
-// At the width that is asked for.
-fn ask_width<S: NarrowSymbol, Q: Ask>(
-    request: &Request,
-    knots: &[u32],
-    question: &mut Q,
-) -> Result<usize, Refused> {
-    if request.make % 2 == 0 {
-        ask_shape::<S, u16, Q>(request, knots, question)
-    } else {
-        ask_shape::<S, u32, Q>(request, knots, question)
+    // Over the shape that is asked for.
+    fn shaped<S: NarrowSymbol, P: BitArray>(self) -> Result<usize, Refused> {
+        let request = self.request;
+        let quantizer = quantizer::<S, P>(request)?;
+        match request.shape {
+            0 => self.guessed(quantizer, Peak::new(request.a, request.b)?),
+            1 => self.guessed(quantizer, Flat::of(request.a).ok_or(Refused::NoneSuch)?),
+            2 => {
+                let mut profile = Profile::built_in();
+                profile.lay(request.first, request.width, self.knots)?;
+                self.guessed(quantizer, profile)
+            }
+            _ => Err(Refused::NoneSuch),
+        }
     }
-}
 
-// Of the make that is asked for.
-pub(crate) fn ask_make<Q: Ask>(
-    request: &Request,
-    knots: &[u32],
-    question: &mut Q,
-) -> Result<usize, Refused> {
-    match request.make / 2 {
-        0 => ask_width::<i16, Q>(request, knots, question),
-        1 => ask_width::<u16, Q>(request, knots, question),
-        2 => ask_width::<i32, Q>(request, knots, question),
-        3 => ask_width::<u32, Q>(request, knots, question),
-        _ => Err(Refused::NoneSuch),
+    // With the guess that is asked for.
+    fn guessed<S: NarrowSymbol, P: BitArray, D: Inverse + Drop>(
+        mut self,
+        quantizer: LeakyQuantizer<S, P>,
+        distribution: D,
+    ) -> Result<usize, Refused> {
+        match self.request.guessing {
+            0 => Ok(self.question.of(quantizer.quantize(distribution))),
+            1 => {
+                let guess = self.request.guess;
+                let misguided = Misguided::constant(distribution, guess);
+                Ok(self.question.of(quantizer.quantize(misguided)))
+            }
+            _ => Err(Refused::NoneSuch),
+        }
     }
 }

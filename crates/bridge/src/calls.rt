@@ -1,5 +1,5 @@
 // The calls of a driver on quantized models.
-use crate::ask::ask_make;
+use crate::ask::Asking;
 use crate::question::{Encoding, Searching, Walking, Weighing};
 use crate::refused::status;
 use crate::request::Request;
@@ -12,12 +12,17 @@ pub extern "C" fn bridge_encode(
     starts: &mut [u64],
     lengths: &mut [u64],
 ) -> i32 {
-    let mut question = Encoding {
+    let question = Encoding {
         symbols,
         starts,
         lengths,
     };
-    status(ask_make(request, knots, &mut question))
+    let asking = Asking {
+        request,
+        knots,
+        question,
+    };
+    status(asking.put())
 }
 
 #[unsafe(no_mangle)]
@@ -29,13 +34,18 @@ pub extern "C" fn bridge_find(
     starts: &mut [u64],
     lengths: &mut [u64],
 ) -> i32 {
-    let mut question = Searching {
+    let question = Searching {
         quantiles,
         symbols,
         starts,
         lengths,
     };
-    status(ask_make(request, knots, &mut question))
+    let asking = Asking {
+        request,
+        knots,
+        question,
+    };
+    status(asking.put())
 }
 
 #[unsafe(no_mangle)]
@@ -45,11 +55,16 @@ pub extern "C" fn bridge_probability(
     symbols: &[i64],
     probabilities: &mut [f64],
 ) -> i32 {
-    let mut question = Weighing {
+    let question = Weighing {
         symbols,
         shares: probabilities,
     };
-    status(ask_make(request, knots, &mut question))
+    let asking = Asking {
+        request,
+        knots,
+        question,
+    };
+    status(asking.put())
 }
 
 #[unsafe(no_mangle)]
@@ -61,10 +76,15 @@ pub extern "C" fn bridge_rows(
     lengths: &mut [u64],
     count: &mut usize,
 ) -> i32 {
-    let mut question = Walking {
+    let question = Walking {
         symbols,
         starts,
         lengths,
     };
-    status(ask_make(request, knots, &mut question).map(|rows| *count = rows))
+    let asking = Asking {
+        request,
+        knots,
+        question,
+    };
+    status(asking.put().map(|rows| *count = rows))
 }

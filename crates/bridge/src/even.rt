@@ -20,6 +20,7 @@ fn ask_range<P: BitArray, Q: Ask>(even: Even, question: &mut Q) -> Result<usize,
 
 // At the width that is asked for.
 fn ask_width<Q: Ask>(even: Even, question: &mut Q) -> Result<usize, Refused> {
+    // A number of the C interface, matched where it chooses a type.
     match even.width {
         16 => ask_range::<u16, Q>(even, question),
         32 => ask_range::<u32, Q>(even, question),

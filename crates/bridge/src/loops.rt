@@ -1,9 +1,10 @@
-// Each question, asked of any model for every entry of the buffers, by index: no clause knows what a zip of `iter_mut` wrote.
-ghost use Rattle.std.specs.Prelude.{◌≡◌, ℕ, ◌+◌, ◌<◌, ◌≤◌, min, length, None, OnSome, slice_index_or};
+// Each question, asked of any model for every entry of the buffers, by index: no clause knows what an adapter of `iter_mut` wrote.
+// The symbols, starts and lengths are three buffers because the C interface has three.
+ghost use Rattle.std.specs.Prelude.{◌≡◌, ℕ, ◌+◌, ◌<◌, ◌≤◌, min, length, None, OnSome, unwrap_or, slice_index_or};
 ghost use Rattle.channel.specs.Pages.{KeptFrom};
 ghost use Rattle.models.specs.Answers.{FromWhole};
 ghost use Rattle.measures.specs.Shares.{Likely};
-ghost use Rattle.bridge.specs.Entries.{EncodesTo, SearchesTo, NextTo, Intervals, Found, Shares, Rows};
+ghost use Rattle.bridge.specs.Entries.{EncodesTo, SearchesTo, NextTo, room, Intervals, Found, Shares, Rows};
 
 use crate::wide::Wide;
 use channel::walk::Channel;
@@ -22,10 +23,10 @@ fn encode_one<M: EncoderModel + IterableEntropyModel, N: Wide>(model: &M, symbol
         let _high = model.highest_symbol().to_whole();
         return (0, 0);
     };
-    match model.left_cumulative_and_probability(symbol) {
-        None => (0, 0),
-        Some((start, length)) => (start.to_u64(), length.to_u64()),
-    }
+    model.left_cumulative_and_probability(symbol).map_or(
+        (0, 0),
+        |(start, length)| (start.to_u64(), length.to_u64()),
+    )
 }
 
 // Asks for each entry of `asked`, as far as the shortest buffer reaches, and tells how many there were.
@@ -36,7 +37,7 @@ pub(crate) fn intervals_of<N: Copy, T: Copy, F: Fn(N) -> (T, T)>(
     lengths: &mut [T],
 ) -> usize
     requires { F.IsAlwaysCallable of }
-    ensures count { result ≡ min (length asked.now) (min (length starts.old) (length lengths.old)) }
+    ensures count { result ≡ room asked.now starts.old lengths.old }
     ensures entries { (k : ℕ) (d : N) (e f : T) → k < result → F.post of (slice_index_or asked.now k d) (slice_index_or starts.new k e, slice_index_or lengths.new k f) }
     ensures starts { KeptFrom result starts.old starts.new }
     ensures lengths { KeptFrom result lengths.old lengths.new }
@@ -56,7 +57,7 @@ pub fn encode_each<M: EncoderModel + IterableEntropyModel, N: Wide>(
     starts: &mut [u64],
     lengths: &mut [u64],
 ) -> usize
-    ensures count { result ≡ min (length symbols.now) (min (length starts.old) (length lengths.old)) }
+    ensures count { result ≡ room symbols.now starts.old lengths.old }
     ensures entries { Intervals N.Wide.whole (M.EntropyModel.meaning model.now) result symbols.now starts.new lengths.new }
     ensures starts { KeptFrom result starts.old starts.new }
     ensures lengths { KeptFrom result lengths.old lengths.new }
@@ -78,20 +79,21 @@ fn widen<S: Symbol, N: Wide>(symbol: S) -> Option<N>
     N::from_whole(symbol.to_whole())
 }
 
+// The row that holds a quantile, where there is one whose symbol the buffers have a number for; any symbol may stand in its place.
+fn find_some<M: DecoderModel, N: Wide>(model: &M, quantile: u64) -> Option<(N, u64, u64)>
+    ensures { (n : N) → (λ (r : N × ℕ × ℕ). SearchesTo N.Wide.whole N.Wide.least N.Wide.most (M.EntropyModel.meaning model.now) quantile r.0 r.1 r.2) (unwrap_or result (n, 0, 0)) }
+{
+    let quantile = M::Probability::from_u64(quantile)?;
+    let (symbol, start, length) = model.quantile_function(quantile).ok()?;
+    let symbol = widen::<M::Symbol, N>(symbol)?;
+    Some((symbol, start.to_u64(), length.to_u64()))
+}
+
 // The row that holds a quantile, or the length 0 where there is none.
 fn find_one<M: DecoderModel, N: Wide>(model: &M, quantile: u64) -> (N, u64, u64)
     ensures { SearchesTo N.Wide.whole N.Wide.least N.Wide.most (M.EntropyModel.meaning model.now) quantile result.0 result.1 result.2 }
 {
-    let Some(quantile) = M::Probability::from_u64(quantile) else {
-        return (N::zero(), 0, 0);
-    };
-    match model.quantile_function(quantile) {
-        Err(_) => (N::zero(), 0, 0),
-        Ok((symbol, start, length)) => match widen::<M::Symbol, N>(symbol) {
-            None => (N::zero(), 0, 0),
-            Some(symbol) => (symbol, start.to_u64(), length.to_u64()),
-        },
-    }
+    find_some(model, quantile).unwrap_or((N::zero(), 0, 0))
 }
 
 // The same of three buffers.
@@ -103,7 +105,7 @@ pub(crate) fn rows_of<Q: Copy, N: Copy, T: Copy, F: Fn(Q) -> (N, T, T)>(
     lengths: &mut [T],
 ) -> usize
     requires { F.IsAlwaysCallable of }
-    ensures count { result ≡ min (length asked.now) (min (length symbols.old) (min (length starts.old) (length lengths.old))) }
+    ensures count { result ≡ min (length asked.now) (room symbols.old starts.old lengths.old) }
     ensures entries { (k : ℕ) (d : Q) (n : N) (e f : T) → k < result → F.post of (slice_index_or asked.now k d) (slice_index_or symbols.new k n, slice_index_or starts.new k e, slice_index_or lengths.new k f) }
     ensures symbols { KeptFrom result symbols.old symbols.new }
     ensures starts { KeptFrom result starts.old starts.new }
@@ -127,7 +129,7 @@ pub fn find_each<M: DecoderModel, N: Wide>(
     starts: &mut [u64],
     lengths: &mut [u64],
 ) -> usize
-    ensures count { result ≡ min (length quantiles.now) (min (length symbols.old) (min (length starts.old) (length lengths.old))) }
+    ensures count { result ≡ min (length quantiles.now) (room symbols.old starts.old lengths.old) }
     ensures entries { Found N.Wide.whole N.Wide.least N.Wide.most (M.EntropyModel.meaning model.now) result quantiles.now symbols.new starts.new lengths.new }
     ensures symbols { KeptFrom result symbols.old symbols.new }
     ensures starts { KeptFrom result starts.old starts.new }
@@ -191,9 +193,9 @@ pub fn next_each<M: IterableEntropyModel + Drop, N: Wide>(
     starts: &mut [u64],
     lengths: &mut [u64],
 ) -> usize
-    ensures count { result ≤ min (length symbols.old) (min (length starts.old) (length lengths.old)) }
+    ensures count { result ≤ room symbols.old starts.old lengths.old }
     ensures entries { Rows N.Wide.whole (M.EntropyModel.meaning model) result symbols.new starts.new lengths.new }
-    ensures ended { result < min (length symbols.old) (min (length starts.old) (length lengths.old)) → NextTo N.Wide.whole N.Wide.least N.Wide.most (M.EntropyModel.meaning model) result None }
+    ensures ended { result < room symbols.old starts.old lengths.old → NextTo N.Wide.whole N.Wide.least N.Wide.most (M.EntropyModel.meaning model) result None }
     ensures symbols { KeptFrom result symbols.old symbols.new }
     ensures starts { KeptFrom result starts.old starts.new }
     ensures lengths { KeptFrom result lengths.old lengths.new }

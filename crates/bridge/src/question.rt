@@ -1,4 +1,5 @@
 // The questions of a driver: each holds its buffers, and asks any model, entry by entry up to the shortest of them.
+// The symbols, starts and lengths are three buffers because the C interface has three.
 ghost use Rattle.std.specs.Prelude.{ℕ};
 ghost use Rattle.models.specs.Meaning.{Meaning};
 ghost use Rattle.bridge.specs.Entries.{Intervals, Found, Shares, Rows};
@@ -21,13 +22,13 @@ pub(crate) trait Ask {
 
 // The interval of a symbol.
 #[derive(Drop)]
-pub(crate) struct Encoding<'a, N> {
+pub(crate) struct Encoding<'a, N, T> {
     pub(crate) symbols: &'a [N],
-    pub(crate) starts: &'a mut [u64],
-    pub(crate) lengths: &'a mut [u64],
+    pub(crate) starts: &'a mut [T],
+    pub(crate) lengths: &'a mut [T],
 }
 
-impl<'a, N: Wide> Ask for Encoding<'a, N> {
+impl<'a, N: Wide> Ask for Encoding<'a, N, u64> {
     ghost answered = { λ q m n. Intervals N.Wide.whole m n q.symbols.now q.starts.now q.lengths.now };
 
     fn of<M: EncoderModel + DecoderModel + IterableEntropyModel + Drop>(
@@ -40,14 +41,14 @@ impl<'a, N: Wide> Ask for Encoding<'a, N> {
 
 // The row of a quantile.
 #[derive(Drop)]
-pub(crate) struct Searching<'a, N> {
-    pub(crate) quantiles: &'a [u64],
+pub(crate) struct Searching<'a, N, T> {
+    pub(crate) quantiles: &'a [T],
     pub(crate) symbols: &'a mut [N],
-    pub(crate) starts: &'a mut [u64],
-    pub(crate) lengths: &'a mut [u64],
+    pub(crate) starts: &'a mut [T],
+    pub(crate) lengths: &'a mut [T],
 }
 
-impl<'a, N: Wide> Ask for Searching<'a, N> {
+impl<'a, N: Wide> Ask for Searching<'a, N, u64> {
     ghost answered = { λ q m n. Found N.Wide.whole N.Wide.least N.Wide.most m n q.quantiles.now q.symbols.now q.starts.now q.lengths.now };
 
     fn of<M: EncoderModel + DecoderModel + IterableEntropyModel + Drop>(
@@ -84,13 +85,13 @@ impl<'a, 'b, N: Wide> Ask for Weighing<'a, 'b, N> {
 
 // The first rows of the table.
 #[derive(Drop)]
-pub(crate) struct Walking<'a, N> {
+pub(crate) struct Walking<'a, N, T> {
     pub(crate) symbols: &'a mut [N],
-    pub(crate) starts: &'a mut [u64],
-    pub(crate) lengths: &'a mut [u64],
+    pub(crate) starts: &'a mut [T],
+    pub(crate) lengths: &'a mut [T],
 }
 
-impl<'a, N: Wide> Ask for Walking<'a, N> {
+impl<'a, N: Wide> Ask for Walking<'a, N, u64> {
     ghost answered = { λ q m n. Rows N.Wide.whole m n q.symbols.now q.starts.now q.lengths.now };
 
     fn of<M: EncoderModel + DecoderModel + IterableEntropyModel + Drop>(

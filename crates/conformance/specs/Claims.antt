@@ -1,9 +1,11 @@
 -- What is claimed of a model, in whole numbers, and when a claim is true: by the definitions that the contracts of models cite.
 -- Assumes nothing.
-use Rattle.std.specs.Prelude.{◌≡◌, ℕ, ◌^◌, ◌≤◌, ℤ, Bool, Ok, Err, Result, Decides, to_bits, Float}
+use Rattle.std.specs.Prelude.{◌≡◌, ℕ, ◌^◌, ◌≤◌, ℤ, Bool, Ok, Err, Result, Decides, to_bits, Float, List, ◌++◌, codes, decimal}
 use Rattle.std.specs.Float.{binary64}
 use Rattle.models.specs.Answers.{Between, Encodes, Searches}
 use Rattle.models.specs.Meaning.{Meaning}
+use Rattle.models.specs.Faults as models
+use Rattle.distributions.specs.Faults as distributions
 use Rattle.measures.specs.Shares.{Likely}
 use Rattle.samples.specs.declared.claim.Claim.{Claim}
 use Rattle.samples.specs.declared.claim.Claim.TheVariants as claim
@@ -37,3 +39,9 @@ Judged least most width m c (Ok agrees) = Decides agrees (Stands m c)
 Judged least most width m c (Err Misfits) = Strange least most width c
 Judged least most width m c (Err (Model fault)) = ⊥
 Judged least most width m c (Err (Distribution fault)) = ⊥
+
+-- why a claim is not judged, as it is printed
+abbrev pub text_of : Unjudged → List ℕ
+text_of Misfits = codes "not of the model's types"
+text_of (Model fault) = codes "refused " ++ decimal (models.number_of fault)
+text_of (Distribution fault) = codes "refused " ++ decimal (distributions.number_of fault)

@@ -1,7 +1,7 @@
 // The judgement of a claim about a model, by the model's own calls.
-ghost use Rattle.std.specs.Prelude.{◌≡◌, Ok, Decides};
+ghost use Rattle.std.specs.Prelude.{◌≡◌, Ok, Some, Decides};
 ghost use Rattle.models.specs.Answers.{Encodes, Searches};
-ghost use Rattle.conformance.specs.Claims.{LikelyBits, Judged};
+ghost use Rattle.conformance.specs.Claims.{LikelyBits, Judged, text_of};
 ghost use Rattle.conformance.specs.declared.judging.Unjudged.TheVariants.{Distribution, Model};
 
 use distributions::fault::DistributionFault;
@@ -27,6 +27,8 @@ pub enum Unjudged {
 }
 
 impl fmt::Display for Unjudged {
+    ghost output = { λ why. Some (text_of why) };
+
     fn fmt<W: fmt::Write>(&self, f: &mut fmt::Formatter<W>) -> fmt::Result {
         match self {
             Unjudged::Misfits => write!(f, "not of the model's types"),

@@ -22,7 +22,7 @@ use std::alloc::{AllocError, Global};
 use std::convert::Infallible;
 use uniform::model::UniformModel;
 
-// The three buffers that a fill is lent: their sizes, and what they hold before.
+// The three buffers that a fill is lent, as the rules have them: their sizes, and what they hold before.
 #[derive(Clone, Copy)]
 pub struct Slots<S, P> {
     pub symbols: usize,
@@ -69,14 +69,12 @@ pub enum Entry<S, P, T> {
     Retuned(T),
 }
 
-// A buffer of n times x. `vec![in heap; x; n]` fills with clones, and a bound does not say that they are x.
+// A buffer of n times x. (What `vec!` fills with are clones, and a bound does not say that they are x.)
 fn blank<T: Copy>(heap: Global, x: T, n: usize) -> Result<Vec<T>, AllocError>
     ensures { IfOk result (λ v. v.items ≡ replicate n x) }
 {
     let mut v = Vec::new(heap);
-    for _ in 0..n {
-        v.push(x)?;
-    }
+    v.resize(n, x)?;
     Ok(v)
 }
 

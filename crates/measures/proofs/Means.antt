@@ -8,7 +8,7 @@ use Rattle.measures.specs.Shares.{length_of}
 use Rattle.measures.specs.Logarithms.{Bounds}
 use Rattle.std.proofs.lemmas.Bool.{cases_lt}
 use Rattle.rounding.proofs.Rounded.{rounds_exact}
-use Rattle.measures.specs.Entropies.{weighed_rows, Entropy, taken, Taken, crossed, paired, CrossEntropy}
+use Rattle.measures.specs.Entropies.{weighed_rows, Entropy, taken, Taken, crossed}
 use Rattle.measures.proofs.Dyadic.{number, quotient_exact, difference_rounds, difference_exact}
 use Rattle.measures.proofs.Rows.{interval_length}
 use Rattle.measures.proofs.Walks.{sum_below, whole_below}
@@ -89,8 +89,3 @@ module _ (log : ℕ → ℕ) (m : Meaning) (weights : List Float) where
       let long : k < length weights = omega (arith, length-drop k weights, ap length e) in
       let more = drop-cons weights k nought long in
       (long, cc, cc)
-
-  -- the walk ends where the weights do, or the rows
-  pub crossing_all : (k : ℕ) (sum : Float) → Crossing log m weights k sum → k ≡ paired m weights → CrossEntropy log m weights sum
-  crossing_all k sum h e =
-      record { value = h.value ∙ ap (crossed log m weights) e; exact = λ i below. h.exact i (omega arith) }

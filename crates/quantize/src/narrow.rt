@@ -1,4 +1,5 @@
 // Symbol types of at most 32 bits: a float holds each of their symbols, and each half between two of them.
+// Each type shows the two laws for itself, since no implementation is for a list of types.
 ghost use Rattle.std.specs.Prelude.{pos, negsuc, ◌≤ℤ◌};
 ghost use Rattle.std.proofs.Common.{rules};
 

@@ -27,7 +27,7 @@ pub struct LeakyQuantizer<S: NarrowSymbol, P: BitArray> {
     ghost fits: { extent.precision ≤ P.width },
 }
 
-// A derive does not reach ghost fields that speak of a type parameter.
+// Tried with a derive: it does not reach ghost fields that speak of a type parameter.
 impl<S: NarrowSymbol, P: BitArray> Copy for LeakyQuantizer<S, P> {}
 
 impl<S: NarrowSymbol, P: BitArray> Clone for LeakyQuantizer<S, P> {

@@ -1,4 +1,4 @@
-// The lines of a listing, each appended whole or not at all.
+// The lines of a listing, each appended whole or not at all: the rules have their digits written by a table, into a page that is lent.
 // A line takes at most 64 bytes: where so many are free, no memory is taken and the call succeeds.
 ghost use Rattle.records.specs.Buffer.{Room, Added, Appended};
 ghost use Rattle.records.specs.Listing.{channel_line, row_line, refused_line, Fills};

@@ -1,6 +1,6 @@
 // Decimal text, appended to a buffer of bytes.
-// The digits come from the highest place down, each by dividing by its power of ten. Room is taken before the
-// first digit, so that a number is appended whole or not at all.
+// The digits come from the highest place down, each by dividing by its power of ten; the rules have the powers in a table.
+// Room is taken before the first digit, so that a number is appended whole or not at all.
 ghost use Rattle.std.specs.Prelude.{◌≡◌, ℕ, ◌-◌, ◌^◌, ◌<◌, ◌≤◌, List, [], ◌∷◌, length, pos, decimal, int_lt};
 ghost use Rattle.std.specs.Fmt.{sign_text, signed_decimal};
 ghost use Rattle.records.specs.Buffer.{Room, Added, Appended};

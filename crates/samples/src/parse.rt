@@ -1,4 +1,7 @@
 // A line of the sample is read as a case: its words stand between single blanks, and a float is the decimal number of its bits.
+ghost use Rattle.std.specs.Prelude.{◌≡◌, Some, codes};
+ghost use Rattle.samples.specs.Words.{Names, type_word, width_word};
+
 use crate::case::{Case, Quantized, SymbolType, Uniform, Width};
 use crate::claim::Claim;
 use std::error::Error;
@@ -11,6 +14,8 @@ use std::str::{FromStr, Split};
 pub struct NotACase;
 
 impl fmt::Display for NotACase {
+    ghost output = { λ _. Some (codes "not read") };
+
     fn fmt<W: fmt::Write>(&self, f: &mut fmt::Formatter<W>) -> fmt::Result {
         f.write_str("not read")
     }
@@ -19,6 +24,8 @@ impl fmt::Display for NotACase {
 impl Error for NotACase {}
 
 impl From<ParseIntError> for NotACase {
+    ghost from_gives = { λ _ e. e ≡ record {} };
+
     fn from(_fault: ParseIntError) -> NotACase {
         NotACase
     }
@@ -26,6 +33,8 @@ impl From<ParseIntError> for NotACase {
 
 impl FromStr for SymbolType {
     type Err = NotACase;
+
+    ghost from_str_gives = { Names type_word };
 
     fn from_str(word: &str) -> Result<SymbolType, NotACase> {
         match word {
@@ -40,6 +49,8 @@ impl FromStr for SymbolType {
 
 impl FromStr for Width {
     type Err = NotACase;
+
+    ghost from_str_gives = { Names width_word };
 
     fn from_str(word: &str) -> Result<Width, NotACase> {
         match word {

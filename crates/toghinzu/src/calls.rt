@@ -42,6 +42,7 @@ pub(crate) trait Described: Copy {
     fn row_of(symbol: <Self::Model as EntropyModel>::Symbol, start: u32, length: u32) -> Self::Row
         ensures { reads result ≡ (Self.Model.Symbol.whole symbol, start, length) };
 
+    // Each channel writes `handed` and `advance` with the same text: each struct has a field of its own, and a trait has none.
     fn handed(&self) -> usize
         ensures { result ≡ handed self.now };
 
@@ -81,7 +82,7 @@ pub(crate) fn search<C: Described>(channel: &C, quantile: u32) -> Result<C::Row,
     Ok(C::row_of(symbol, start, length))
 }
 
-// The next rows of the walk, in the buffers, and how many they are.
+// The next rows of the walk, in the buffers, and how many they are. They are three buffers because the C interface has three.
 pub(crate) fn fill<C: Described>(
     channel: &mut C,
     symbols: &mut [<C::Model as EntropyModel>::Symbol],

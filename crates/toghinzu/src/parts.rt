@@ -8,7 +8,7 @@ pub struct Interval {
     pub length: u32,
 }
 
-// A row of a Peak channel's table.
+// A row of a Peak channel's table. A row of each symbol type has a struct of its own, because the C header has both.
 #[repr(C)]
 #[derive(Clone, Copy)]
 pub struct PeakRow {

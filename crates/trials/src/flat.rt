@@ -21,7 +21,7 @@ impl Flat {
     }
 
     // The same height everywhere, which has to lie from 0 to 1.
-    pub fn new(height: f64) -> Option<Flat>
+    pub fn of(height: f64) -> Option<Flat>
         ensures { MatchOption result (within nought one height ≡ false) (λ d. d.height ≡ height) }
     {
         if (0.0..=1.0).contains(&height) {

@@ -94,7 +94,7 @@ fn walk(rt: &HostRuntime) -> anyhow::Result<()> {
 }
 
 // One history on a make of channel: every call, buffers of unequal sizes and of none, the last page and past it.
-// The calls are pushed, since the size of an array of them is not known here.
+// Here and in `even` the calls are pushed, since the size of an array of them is not known where types are parameters.
 fn mixed<S: NarrowSymbol, P: BitArray>(
     rt: &HostRuntime,
     who: &str,

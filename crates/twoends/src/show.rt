@@ -93,13 +93,19 @@ impl<'a, S: Symbol, P: BitArray> fmt::Display for Buffers<'a, S, P> {
         for symbol in &self.0.symbols {
             write!(f, " {}", symbol.to_whole())?;
         }
-        write!(f, "; starts")?;
-        for start in &self.0.starts {
-            write!(f, " {}", start.to_u64())?;
-        }
-        write!(f, "; lengths")?;
-        for length in &self.0.lengths {
-            write!(f, " {}", length.to_u64())?;
+        write!(f, "; starts{}", Column(&self.0.starts))?;
+        write!(f, "; lengths{}", Column(&self.0.lengths))
+    }
+}
+
+// The starts or the lengths of a page, each after a blank.
+#[derive(Drop)]
+struct Column<'a, P>(&'a [P]);
+
+impl<'a, P: BitArray> fmt::Display for Column<'a, P> {
+    fn fmt<W: fmt::Write>(&self, f: &mut fmt::Formatter<W>) -> fmt::Result {
+        for value in self.0 {
+            write!(f, " {}", value.to_u64())?;
         }
         Ok(())
     }

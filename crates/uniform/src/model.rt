@@ -26,7 +26,7 @@ pub struct UniformModel<P: BitArray> {
     ghost even: { length ≡ 2 ^ precision / range },
 }
 
-// A derive does not reach ghost fields that speak of a type parameter.
+// Tried with a derive: it does not reach ghost fields that speak of a type parameter.
 impl<P: BitArray> Copy for UniformModel<P> {}
 
 impl<P: BitArray> Clone for UniformModel<P> {
@@ -44,7 +44,7 @@ impl<P: BitArray> UniformModel<P> {
     pub fn new(precision: u32, range: usize) -> Result<Self, ModelFault>
         ensures { Makes (refusal P.width precision range) (λ u. uniform u.precision u.range ≡ uniform precision range) result }
     {
-        if precision == 0 || precision > P::bits() {
+        if !(1..=P::bits()).contains(&precision) {
             return Err(ModelFault::Precision);
         }
         let quantiles = 1u64 << precision;
@@ -85,8 +85,7 @@ impl<P: BitArray> UniformModel<P> {
         ensures { Holds (uniform self.now.precision self.now.range) quantile result }
     {
         let guess = quantile / self.length;
-        let last = self.range - 1;
-        if guess < last { guess } else { last }
+        guess.min(self.range - 1)
     }
 
     // A row as the table has it.

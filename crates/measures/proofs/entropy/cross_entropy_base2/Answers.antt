@@ -1,7 +1,6 @@
-use Rattle.std.proofs.Common.{◌≡◌, ◌∙◌, zero-le, length, length-drop, ap, inl, inr, arith}
-use Rattle.measures.specs.Entropies.{paired}
+use Rattle.std.proofs.Common.{◌∙◌, zero-le}
 use Rattle.rounding.proofs.Literals.{nought_bits}
-use Rattle.measures.proofs.Means.{crossing_none, crossing_more, crossing_all, next_weight}
+use Rattle.measures.proofs.Means.{crossing_none, crossing_more, next_weight}
 use Rattle.measures.proofs.entropy.cross_entropy_base2.Goals as goal
 
 pub loop-weight-init : goal.loop-weight-init
@@ -26,17 +25,3 @@ loop-weight-preserved g c =
       crossing_more g.L.Logarithm.value m weights i _ _ _ _ _ _
           known.3 row.at.within row.interval c.precision-precision.ensures weight.1 c.bits_taken.ensures,
     )
-
--- the walk ends where the weights do, or the rows
-pub returns : goal.returns
-returns g c =
-    let m = g.M.EntropyModel.meaning c.args.model.now in
-    let weights = c.args.weights.now in
-    let known = c.loop-weight.invariant in
-    let i = c.loop-weight.weight-iterator.b.row in
-    let end : i ≡ paired m weights =
-    elim c.in-None.ensures.steps [
-      | inl none ↦ omega (arith, known.3.rows, known.1, length-drop i weights, ap length known.2, none.1.0)
-      | inr none ↦ let past = rw known.0 at none.1.1 in omega (arith, known.3.rows, known.1, past)
-    ] in
-    crossing_all g.L.Logarithm.value m weights i _ known.3 end

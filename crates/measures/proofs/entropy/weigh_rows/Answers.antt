@@ -1,5 +1,4 @@
-use Rattle.std.proofs.Common.{◌≡◌, suc, sym, ap, ◌∙◌, zero-le, arith}
-use Rattle.measures.specs.Entropies.{weighed}
+use Rattle.std.proofs.Common.{suc, sym, ◌∙◌, zero-le, arith}
 use Rattle.measures.proofs.Walks.{weighed_none, part_fits, turn}
 use Rattle.measures.proofs.entropy.weigh_rows.Goals as goal
 
@@ -33,12 +32,3 @@ loop-length-preserved g c =
       rw onward
           (turn g.L.Logarithm.value m i _ _ _ _ _ known.2 row.interval c.to_u64.ensures.value c.log2_of.ensures.value),
     )
-
--- the rows end past the last one
-pub returns : goal.returns
-returns g c =
-    let m = g.M.EntropyModel.meaning c.args.model.now in
-    let known = c.loop-length.invariant in
-    let past = rw known.0 at c.in-None.ensures.steps.1 in
-    let end : c.loop-length.length-iterator.row ≡ suc m.span = omega arith in
-    known.2 ∙ ap (weighed g.L.Logarithm.value m) end

@@ -1,10 +1,5 @@
-use Rattle.rounding.proofs.Literals.{nought_bits}
 use Rattle.measures.proofs.Rows.{share, likely}
 use Rattle.measures.proofs.probability.floating_point_probability.Goals as goal
-
-pub returns-in_default : goal.returns-in_default
-returns-in_default g c =
-    record { outside = λ _. nought_bits; inside = λ i at. absurd (c.in_default.ensures i at) }
 
 pub returns : goal.returns
 returns g c =

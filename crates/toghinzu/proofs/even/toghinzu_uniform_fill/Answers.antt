@@ -1,8 +1,7 @@
-use Rattle.std.proofs.Common.{w32, SFits, rules}
+use Rattle.std.proofs.Common.{w32, rules}
 use Rattle.std.proofs.lemmas.Int.{to_z-of_z}
 use Rattle.toghinzu.proofs.even.toghinzu_uniform_fill.Goals as goal
 
 pub returns : goal.returns
 returns c =
-    let kept : SFits w32 c.tell.result = search rules in
-    rw (to_z-of_z w32 c.tell.result kept, c.tell.ensures.status, c.tell.ensures.place) (c.fill.ensures c.args.count.now)
+    rw (to_z-of_z w32 c.tell.result (search rules), c.tell.ensures.status, c.tell.ensures.place) (c.fill.ensures c.args.count.now)

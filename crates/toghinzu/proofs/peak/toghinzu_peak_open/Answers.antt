@@ -1,9 +1,8 @@
-use Rattle.std.proofs.Common.{w32, SFits, rules}
+use Rattle.std.proofs.Common.{w32, rules}
 use Rattle.std.proofs.lemmas.Int.{to_z-of_z}
 use Rattle.toghinzu.proofs.peak.toghinzu_peak_open.Goals as goal
 
 pub returns : goal.returns
 returns c =
-    let kept : SFits w32 c.tell.result = search rules in
-    rw (to_z-of_z w32 c.tell.result kept, c.tell.ensures.status, c.tell.ensures.place)
+    rw (to_z-of_z w32 c.tell.result (search rules), c.tell.ensures.status, c.tell.ensures.place)
     (rw (to_z-of_z w32 c.args.min c.ranges.min, to_z-of_z w32 c.args.max c.ranges.max) at c.open.ensures c.args.channel.now)

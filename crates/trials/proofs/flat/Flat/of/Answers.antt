@@ -3,7 +3,7 @@ use Rattle.std.proofs.Common.{sym, ◌∙◌}
 use lib.Ieee.{of_bits}
 use Rattle.distributions.proofs.Cuts.{range_tells}
 use Rattle.rounding.specs.Fractions.{nought, one}
-use Rattle.trials.proofs.flat.Flat.new.Goals as goal
+use Rattle.trials.proofs.flat.Flat.of.Goals as goal
 
 pub invariant_of-result : goal.invariant_of-result
 unfolding of_bits
