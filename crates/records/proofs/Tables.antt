@@ -99,6 +99,11 @@ module _ {Z : Type 0} (m : Meaning) (v : Vec ℕ Z) where
   last_page from w x (later l items full) a =
       last_rows from l full (a.items ∙ ap (λ (k : List ℕ). k ++ row_lines m from (suc m.span - from)) items)
 
+  -- no row past the last is yet to be written
+  pub underway_within : (from : ℕ) (w : Vec ℕ Z) → Underway m v from w → from ≤ suc m.span
+  underway_within from w (begun z items len cap) = omega (arith, z)
+  underway_within from w (later l items full) = l
+
   -- memory that was taken before does not count
   pub listed_grown : (u w : Vec ℕ Z) → vec_items u ≡ vec_items v → vec_len u ≡ vec_len v → vec_capacity v ≤ vec_capacity u → Listed m u w → Listed m v w
   listed_grown u w items len cap (whole_table e) = whole_table (e ∙ ap (λ (l : List ℕ). l ++ table_lines m) items)

@@ -40,9 +40,14 @@ pub record Part {Z : Type 0} (m : Meaning) (first : ℕ) (v w : Vec ℕ Z) (next
   pub lines : Added v (row_lines m first (next - first)) w
   pub full : Room w 64 → ⊥
 
+-- all rows from `first` on were written; where the table has reached its end so, a line more fits
+pub record Whole {Z : Type 0} (m : Meaning) (first : ℕ) (v w : Vec ℕ Z) : Type 0 where
+  pub lines : Added v (row_lines m first (suc m.span - first)) w
+  pub room : first ≤ suc m.span → Room w 64
+
 -- all rows from `first` on are written, or a part of them and the buffer is full
 abbrev pub Fills : {Z : Type 0} → Meaning → ℕ → Vec ℕ Z → Vec ℕ Z → Option ℕ → Type 0
-Fills m first v w None = Added v (row_lines m first (suc m.span - first)) w
+Fills m first v w None = Whole m first v w
 Fills m first v w (Some next) = Part m first v w next
 
 -- the lines of all rows

@@ -1,5 +1,6 @@
 // The lines of a listing, each appended whole or not at all: the rules have their digits written by a table, into a page that is lent.
 // A line takes at most 64 bytes: where so many are free, no memory is taken and the call succeeds.
+ghost use Rattle.std.specs.Prelude.{Decides};
 ghost use Rattle.records.specs.Buffer.{Room, Added, Appended};
 ghost use Rattle.records.specs.Listing.{channel_line, row_line, refused_line, Fills};
 
@@ -97,8 +98,15 @@ pub fn push_refused(out: &mut Vec<u8>, refusal: Refusal) -> Result<(), AllocErro
     refusal.push(out)
 }
 
+// Whether a line surely fits without taking memory.
+fn has_room(out: &Vec<u8>) -> bool
+    ensures { Decides result (Room out.now 64) }
+{
+    out.capacity() - out.len() >= LINE_ROOM
+}
+
 // Appends the rows of a model's table from the given one on, as long as a line surely fits without taking memory.
-// Answers the row to go on with, or `None` once the last is written.
+// Answers the row to go on with, or `None` once the last is written and a line more surely fits: the next heading needs it.
 pub fn fill_rows<M: IterableEntropyModel>(
     out: &mut Vec<u8>,
     model: &M,
@@ -111,7 +119,7 @@ pub fn fill_rows<M: IterableEntropyModel>(
     let high = model.highest_symbol().to_whole();
     let rows = (high - low) as usize + 1;
     for row in from..rows {
-        if out.capacity() - out.len() < LINE_ROOM {
+        if !has_room(out) {
             return Some(row);
         }
         // a row ends where the next one starts
@@ -124,5 +132,5 @@ pub fn fill_rows<M: IterableEntropyModel>(
         line.put(out);
         start = end;
     }
-    None
+    if has_room(out) { None } else { Some(rows) }
 }

@@ -1,6 +1,6 @@
 // Records in and listing out, a piece at a time, so that memory does not grow with either.
 ghost use Rattle.std.specs.Prelude.{◌≡◌, ◌≤◌, length, IfOk, MatchResult, OnOk};
-ghost use Rattle.records.specs.Buffer.{Emptied};
+ghost use Rattle.records.specs.Buffer.{Room, Emptied};
 ghost use Rattle.records.specs.Listing.{Listed};
 
 use crate::listing::{LINE_ROOM, fill_rows};
@@ -24,6 +24,33 @@ pub fn read_piece<R: Read>(input: &mut R, piece: &mut [u8]) -> io::Result<usize>
     Ok(filled)
 }
 
+// Writes the page out and empties it.
+pub fn write_page<W: Write>(page: &mut Vec<u8>, sink: &mut W) -> io::Result<()>
+    ensures { MatchResult result (λ _. Emptied page.old page.new) (λ _. page.new ≡ page.old) }
+{
+    sink.write_all(page.as_slice())?;
+    page.clear();
+    Ok(())
+}
+
+// Lists a whole table, and writes the page out whenever it is full: the last lines stay on it, and a line more has room.
+pub fn write_rows<M: IterableEntropyModel, W: Write>(
+    page: &mut Vec<u8>,
+    sink: &mut W,
+    model: &M,
+) -> io::Result<()>
+    ensures listed { OnOk result (Listed (M.EntropyModel.meaning model.now) page.old page.new) }
+    ensures room { OnOk result (Room page.new 64) }
+{
+    page.reserve(LINE_ROOM)?;
+    let mut from = 0;
+    while let Some(next) = fill_rows(page, model, from) {
+        write_page(page, sink)?;
+        from = next;
+    }
+    Ok(())
+}
+
 // A listing on its way out: the page that holds its last lines, and where the pages go.
 #[derive(Drop)]
 pub struct Listing<W> {
@@ -32,25 +59,16 @@ pub struct Listing<W> {
 }
 
 impl<W: Write> Listing<W> {
-    // Writes the page out and empties it.
     pub fn write_page(&mut self) -> io::Result<()>
         ensures { MatchResult result (λ _. Emptied self.old.page self.new.page) (λ _. self.new.page ≡ self.old.page) }
     {
-        self.sink.write_all(self.page.as_slice())?;
-        self.page.clear();
-        Ok(())
+        write_page(&mut self.page, &mut self.sink)
     }
 
-    // Lists a whole table, and writes the page out whenever it is full: the last lines stay on it.
     pub fn write_rows<M: IterableEntropyModel>(&mut self, model: &M) -> io::Result<()>
-        ensures { OnOk result (Listed (M.EntropyModel.meaning model.now) self.old.page self.new.page) }
+        ensures listed { OnOk result (Listed (M.EntropyModel.meaning model.now) self.old.page self.new.page) }
+        ensures room { OnOk result (Room self.new.page 64) }
     {
-        self.page.reserve(LINE_ROOM)?;
-        let mut from = 0;
-        while let Some(next) = fill_rows(&mut self.page, model, from) {
-            self.write_page()?;
-            from = next;
-        }
-        Ok(())
+        write_rows(&mut self.page, &mut self.sink, model)
     }
 }

@@ -1,4 +1,4 @@
-use Rattle.std.proofs.Common.{◌≡◌, suc, ℤ, pos, ◌+ℤ◌, ◌^◌, ◌≤◌, ◌∙◌, sym, ap, ℕ, ◌-◌, arith}
+use Rattle.std.proofs.Common.{◌≡◌, suc, ℤ, pos, ◌+ℤ◌, ◌^◌, ◌≤◌, ◌∙◌, sym, ap, ℕ, ◌-◌, true≢false, arith}
 use Rattle.records.specs.Listing.{row_lines}
 use Rattle.std.proofs.lemmas.Int.{ints}
 use Rattle.models.specs.Meaning.{Meaning}
@@ -48,15 +48,6 @@ loop-row-init g c =
       written = added_same (added_none _) (rows_none m c.args.from);
     }
 
-pub returns-then-capacity-len-lt-LINE_ROOM : goal.returns-then-capacity-len-lt-LINE_ROOM
-returns-then-capacity-len-lt-LINE_ROOM g c =
-    record {
-      onward = c.loop-row.auto.row;
-      within = λ h. omega (arith, c.loop-row.invariant.all, c.loop-row-test.true);
-      lines = c.loop-row.invariant.written;
-      full = λ room. omega (arith, room);
-    }
-
 -- the row's start and length are numbers of 32 bits
 printed : (g : Over) (c : goal.In_ok-end g) → Prints c.loop-row.start c.in_ok-end.end
 printed g c =
@@ -88,8 +79,32 @@ loop-row-preserved g c =
           (sym (rows_more m c.args.from c.loop-row.row c.loop-row.auto.row));
     }
 
-pub returns : goal.returns
-returns g c =
+pub returns-then-not-has_room : goal.returns-then-not-has_room
+returns-then-not-has_room g c =
+    record {
+      onward = c.loop-row.auto.row;
+      within = λ h. omega (arith, c.loop-row.invariant.all, c.loop-row-test.true);
+      lines = c.loop-row.invariant.written;
+      full = λ room. true≢false (sym (c.has_room.ensures.1 room) ∙ c.if-not-has_room.true);
+    }
+
+-- the loop ends at the end of the table
+pub returns-then-has_room : goal.returns-then-has_room
+returns-then-has_room g c =
     let m : Meaning = g.M.EntropyModel.meaning c.args.model.now in
     let end : c.loop-row.row ≡ suc m.span = omega (arith, c.loop-row.invariant.all, c.in_ok-start.ensures.0) in
-    added_same c.loop-row.invariant.written (ap (λ (n : ℕ). row_lines m c.args.from (n - c.args.from)) end)
+    record {
+      lines = added_same c.loop-row.invariant.written (ap (λ (n : ℕ). row_lines m c.args.from (n - c.args.from)) end);
+      room = λ h. c.has_room-2.ensures.0 c.if-has_room.true;
+    }
+
+pub returns-else-has_room : goal.returns-else-has_room
+returns-else-has_room g c =
+    let m : Meaning = g.M.EntropyModel.meaning c.args.model.now in
+    let end : c.loop-row.row ≡ suc m.span = omega (arith, c.loop-row.invariant.all, c.in_ok-start.ensures.0) in
+    record {
+      onward = omega (arith, c.loop-row.invariant.all, c.in_ok-start.ensures.0);
+      within = λ h. omega (arith, c.loop-row.invariant.all);
+      lines = added_same c.loop-row.invariant.written (ap (λ (n : ℕ). row_lines m c.args.from (n - c.args.from)) (end ∙ sym c.loop-row.invariant.all));
+      full = λ room. true≢false (sym (c.has_room-2.ensures.1 room) ∙ c.if-has_room.false);
+    }
