@@ -1,15 +1,16 @@
 -- The two searches of a profile: the piece of a distance, and the last knot of at most a value. Assumes nothing.
-use Rattle.std.proofs.Common.{◌≡◌, ℕ, ◌+◌, ◌*◌, ◌/◌, ◌^◌, ◌<◌, ◌≤◌, true, false, cond, ◌||◌, T, ◌⊎◌, List, length, get_or, pos, negsuc, ◌≤ℤ◌, sym, refl, ◌∙◌, subst, inl, inr, true≢false, le_trans, le_refl, lt_of_lt_of_le, lt_irrefl, div-lt_iff_lt-mul, mul-le-mul, div-mul-le_self, arith, lit≤}
+use Rattle.std.proofs.Common.{◌≡◌, ℕ, ◌+◌, ◌*◌, ◌/◌, ◌^◌, ◌<◌, ◌≤◌, true, false, cond, ◌||◌, T, ◌⊎◌, List, drop, length, get_or, length-drop, pos, negsuc, ◌≤ℤ◌, sym, refl, ◌∙◌, subst, inl, inr, true≢false, le_trans, le_refl, lt_of_lt_of_le, lt_irrefl, div-lt_iff_lt-mul, mul-le-mul, div-mul-le_self, arith, lit≤}
 use lib.Ieee.{Float, binary64, le, lt, sub, div, of_int, to_unsigned, fits, is_nan}
 use lib.Ieee.Scale.{finite}
 use Rattle.std.specs.List.Sorted.{IsPartitionedBy}
 use Rattle.std.proofs.lemmas.List.Sorted.{IsNonDecreasingBy-from_default}
+use Rattle.std.proofs.lemmas.Grind.{get_or_after_one}
 use Rattle.std.proofs.lemmas.Bool.{cases_Bool, cases_lt, cond-true, cond-false, or_left, or_right, or_from}
 use Rattle.rounding.specs.Fractions.{nought, one, power}
 use Rattle.rounding.proofs.Laws.{order_laws}
 use Rattle.rounding.proofs.Order.{finite_number, right_number, so}
 use Rattle.distributions.specs.Greatest.{greatest_only}
-use Rattle.distributions.specs.Tables.{Parts, Rising, Sound}
+use Rattle.distributions.specs.Tables.{Parts, Rising, Counted, Wide}
 use Rattle.distributions.specs.Profile.{whole, end, reach, knot, along, line_at, piece_at, last_up_to, height_at}
 use Rattle.distributions.specs.ProfileLaws.{whole_rises, whole_finite, knots_rise, start_finite}
 use Rattle.distributions.proofs.Cuts.{lt_le, le_lt, cut_under, cut_over, sub_number}
@@ -22,11 +23,11 @@ wide_end : lt (whole (2 ^ 26)) (power false (pos 64)) ≡ true
 unfolding lt of_int
 wide_end = refl
 
-module _ (p : Parts) (s : Sound p.width p.knots) (t : Float) (from : le nought t ≡ true) (held : fits binary64 t ≡ true) (to : le (reach p (end p)) t ≡ false) where
+module _ (p : Parts) (n : Counted p.knots) (w : Wide p.width) (t : Float) (from : le nought t ≡ true) (held : fits binary64 t ≡ true) (to : le (reach p (end p)) t ≡ false) where
   reach_small : (i : ℕ) → i ≤ end p → i * p.width ≤ 2 ^ 26
   reach_small i h =
-      let a : i ≤ 1024 = omega (arith, s.counted.most) in
-      mul-le-mul a s.wide.most
+      let a : i ≤ 1024 = omega (arith, n.most) in
+      mul-le-mul a w.most
 
   to_end : le t (reach p (end p)) ≡ true
   to_end = elim (order_laws.total t (reach p (end p)) (right_number nought t from) (finite_number (reach p (end p)) (whole_finite (end p * p.width) (le_trans (reach_small (end p) (le_refl (end p))) (lit≤ tt))))) [ inl h ↦ h | inr h ↦ absurd (true≢false (sym h ∙ to)) ]
@@ -55,7 +56,7 @@ module _ (p : Parts) (s : Sound p.width p.knots) (t : Float) (from : le nought t
       ]
 
   pub piece_below : to_unsigned 64 t / p.width < end p
-  piece_below = (div-lt_iff_lt-mul s.wide.some).1 short
+  piece_below = (div-lt_iff_lt-mul w.some).1 short
     where
       short : to_unsigned 64 t < end p * p.width
       short = elim (cases_lt (to_unsigned 64 t) (end p * p.width)) [ inl h ↦ h | inr h ↦ absurd (true≢false (sym (reached (end p) h) ∙ to)) ]
@@ -68,7 +69,7 @@ module _ (p : Parts) (s : Sound p.width p.knots) (t : Float) (from : le nought t
       (record {
         within = omega (arith, piece_below);
         passes = λ h. reached i (div-mul-le_self (to_unsigned 64 t) p.width);
-        above = λ j h k. beyond j k ((div-lt_iff_lt-mul s.wide.some).0 h);
+        above = λ j h k. beyond j k ((div-lt_iff_lt-mul w.some).0 h);
       })
 
 -- ---- the last knot of at most y
@@ -77,6 +78,12 @@ pub knots_parted : (c : List ℕ) (y : Float) → Rising c → IsPartitionedBy (
 knots_parted c y r i j d h k =
     let rises = IsNonDecreasingBy-from_default (λ (k : ℕ). k) c 0 (knots_rise c r) in
     order_laws.transitive (whole (get_or c i d)) (whole (get_or c j d)) y (whole_rises (get_or c i d) (get_or c j d) (rises i j d h k))
+
+-- the same of the knots after the first
+pub later_parted : (c : List ℕ) (y : Float) → Rising c → IsPartitionedBy (λ k. le (whole k) y) (drop 1 c)
+later_parted c y r i j d h k e =
+    subst (λ (x : ℕ). le (whole x) y ≡ true) (sym (get_or_after_one c i d))
+    (knots_parted c y r (1 + i) (1 + j) d (omega arith) (omega (arith, k, length-drop 1 c)) (subst (λ (x : ℕ). le (whole x) y ≡ true) (get_or_after_one c j d) e))
 
 pub last_is : (p : Parts) (y : Float) (i : ℕ) → i < length p.knots → (0 < i → le (knot p i) y ≡ true) → ((j : ℕ) → i + 1 ≤ j → j < length p.knots → le (knot p j) y ≡ false) → i ≡ last_up_to p y
 unfolding last_up_to

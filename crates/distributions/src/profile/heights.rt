@@ -66,8 +66,7 @@ impl<'a> Profile<'a> {
         ensures within { result < length self.now.knots.now }
         ensures last { result ≡ last_up_to (parts_of self.now) y }
     {
-        let counted = self.knots.partition_point(|knot| f64::from(*knot) <= y);
-        counted.saturating_sub(1)
+        self.knots[1..].partition_point(|knot| f64::from(*knot) <= y)
     }
 }
 
