@@ -51,11 +51,11 @@ pub(crate) trait Described: Copy {
         ensures { self.new ≡ onward self.old rows };
 }
 
-// The channel, checked.
-pub(crate) fn open<C: Described>(asked: C) -> Result<C, Refused>
-    ensures { (before : C) → Opened (C.due asked) asked before (place_of before result) (status_of result) }
+// The channel that is asked for, where the one that is looked at describes a model.
+pub(crate) fn open<C: Described>(looked_at: &C, asked: C) -> Result<C, Refused>
+    ensures { (before : C) → Opened (C.due looked_at.now) asked before (place_of before result) (status_of result) }
 {
-    asked.model()?;
+    looked_at.model()?;
     Ok(asked)
 }
 

@@ -61,7 +61,7 @@ pub extern "C" fn toghinzu_uniform_open(
         precision,
         row: 0,
     };
-    tell(open(asked), channel)
+    tell(open(&asked, asked), channel)
 }
 
 #[unsafe(no_mangle)]

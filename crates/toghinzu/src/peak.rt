@@ -76,7 +76,7 @@ pub extern "C" fn toghinzu_peak_open(
         scale,
         row: 0,
     };
-    tell(open(asked), channel)
+    tell(open(&asked, asked), channel)
 }
 
 #[unsafe(no_mangle)]
