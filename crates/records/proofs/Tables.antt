@@ -55,6 +55,10 @@ row_line_between m i s e z symbol from to =
     let end : e ≡ m.start (suc i) = to.1 ∙ ap m.start (add-one i) in
     cc
 
+-- rows up to `next` fill the buffer
+pub part_full : {Z : Type 0} (m : Meaning) (first : ℕ) (v w : Vec ℕ Z) (next : ℕ) → first ≤ next → next ≤ suc m.span → Added v (row_lines m first (next - first)) w → (Room w 64 → ⊥) → Part m first v w next
+part_full m first v w next onward within lines full = record { onward = onward; within = λ h. within; lines = lines; full = full }
+
 -- where there was room for a line, a row was written
 pub part_moves : {Z : Type 0} (m : Meaning) (first : ℕ) (v w : Vec ℕ Z) (next : ℕ) → Part m first v w next → Room v 64 → first < next
 part_moves m first v w next p room = ⊎_elim (λ l. l) (λ l. absurd (p.full (still l))) (cases_lt first next)

@@ -4,7 +4,7 @@ use Rattle.std.proofs.lemmas.Int.{ints}
 use Rattle.models.specs.Meaning.{Meaning}
 use Rattle.models.proofs.Room.{rows_few}
 use Rattle.records.proofs.Appending.{added_both, added_none, added_same}
-use Rattle.records.proofs.Tables.{Prints, row_line_between, row_prints, rows_more, rows_none}
+use Rattle.records.proofs.Tables.{Prints, row_line_between, row_prints, rows_more, rows_none, part_full}
 use Rattle.records.proofs.listing.fill_rows.Given.{Over}
 use Rattle.records.proofs.listing.fill_rows.Goals as goal
 
@@ -81,12 +81,8 @@ loop-row-preserved g c =
 
 pub returns-then-not-has_room : goal.returns-then-not-has_room
 returns-then-not-has_room g c =
-    record {
-      onward = c.loop-row.auto.row;
-      within = λ h. omega (arith, c.loop-row.invariant.all, c.loop-row-test.true);
-      lines = c.loop-row.invariant.written;
-      full = λ room. true≢false (sym (c.has_room.ensures.1 room) ∙ c.if-not-has_room.true);
-    }
+    part_full _ _ _ _ _ c.loop-row.auto.row (omega (arith, c.loop-row.invariant.all, c.loop-row-test.true)) c.loop-row.invariant.written
+    (λ room. true≢false (sym (c.has_room.ensures.1 room) ∙ c.if-not-has_room.true))
 
 -- the loop ends at the end of the table
 pub returns-then-has_room : goal.returns-then-has_room
@@ -102,9 +98,6 @@ pub returns-else-has_room : goal.returns-else-has_room
 returns-else-has_room g c =
     let m : Meaning = g.M.EntropyModel.meaning c.args.model.now in
     let end : c.loop-row.row ≡ suc m.span = omega (arith, c.loop-row.invariant.all, c.in_ok-start.ensures.0) in
-    record {
-      onward = omega (arith, c.loop-row.invariant.all, c.in_ok-start.ensures.0);
-      within = λ h. omega (arith, c.loop-row.invariant.all);
-      lines = added_same c.loop-row.invariant.written (ap (λ (n : ℕ). row_lines m c.args.from (n - c.args.from)) (end ∙ sym c.loop-row.invariant.all));
-      full = λ room. true≢false (sym (c.has_room-2.ensures.1 room) ∙ c.if-has_room.false);
-    }
+    part_full _ _ _ _ _ (omega (arith, c.loop-row.invariant.all, c.in_ok-start.ensures.0)) (omega (arith, c.loop-row.invariant.all))
+    (added_same c.loop-row.invariant.written (ap (λ (n : ℕ). row_lines m c.args.from (n - c.args.from)) (end ∙ sym c.loop-row.invariant.all)))
+    (λ room. true≢false (sym (c.has_room-2.ensures.1 room) ∙ c.if-has_room.false))
